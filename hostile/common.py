@@ -45,6 +45,10 @@ MOMENTS = """{"@context":"http://www.w3.org/ns/csvw","url":"m.csv","tableSchema"
 {"name":"at","datatype":"dateTime"},
 {"name":"stamp","separator":";","datatype":"dateTimeStamp"}]}}"""
 
+SPACED = """{"@context":"http://www.w3.org/ns/csvw","url":"s.csv","tableSchema":{"primaryKey":"at","columns":[
+{"name":"at","datatype":{"base":"dateTime","format":"M/d/yyyy HH:mm","minimum":"2020-01-01T00:00:00"}},
+{"name":"seen","separator":";","datatype":{"base":"dateTime","format":"dd.MM.yyyy HHmmss"}}]}}"""
+
 # The small files of the groups that are not in examples/.
 FILES = {
     "keys/meta.json": KEYS,
@@ -59,6 +63,8 @@ FILES = {
     "moments/meta.json": MOMENTS,
     "moments/m.csv": f"at,stamp\n2020-01-31T08:30:00.{'12' * 30}+01:00,2020-01-31T08:30:00Z;2020-02-29T23:59:59.5-14:00\n"
                      "2020-01-31T08:30:00,2020-01-31T08:30:00\n2020-01-31T08:30:00.0,\n",
+    "spaced/meta.json": SPACED,
+    "spaced/s.csv": "at,seen\n1/31/2020 08:30,31.01.2020 083000;29.02.2020 235959\n12/31/2019 23:59,29.02.2019 000000\n01/31/2020  08:30,\n",
     "ragged.csv": "id\n1\n2\n3,4\n",
     "empty.csv": "",
 }
@@ -90,6 +96,7 @@ RUNS = [
     Run("regular expressions", group("convert --minimal --profile w3c", "expressions", "e.csv")),
     Run("regular expressions, validate", group("validate --profile w3c", "expressions", "e.csv")),
     Run("moments with zones", group("convert --minimal --profile w3c", "moments", "m.csv")),
+    Run("moments with a space", group("convert --minimal --profile w3c", "spaced", "s.csv")),
     Run("a document that is refused", group("convert", "twice", "prices.csv", "prices.csv")),
     Run("too few files", group("convert", "rivers", "stations.csv")),
     Run("help", ["--help"]),

@@ -124,6 +124,14 @@ module _ (numbers : NumbersGiven) (dates : DatesGiven) (moments : MomentsGiven) 
   bound_given (simples.Floating t) text h = cc
   bound_given simples.Truth text h = cc
 
+-- two answers of one text are the same, where a text has one value at most
+pub same_answer : (P : ℤ → Type 0) → ((a b : ℤ) → P a → P b → a ≡ b) → (o p : Option ℤ) → MatchOption o ((z : ℤ) → P z → ⊥) P
+    → MatchOption p ((z : ℤ) → P z → ⊥) P → o ≡ p
+same_answer P one None None h k = refl
+same_answer P one None (Some b) h k = absurd (h b k)
+same_answer P one (Some a) None h k = absurd (k a h)
+same_answer P one (Some a) (Some b) h k = ap (λ z. Some z) (one a b h k)
+
 -- each bound fits its type
 
 abbrev BoundsInType : Type 0

@@ -1,5 +1,5 @@
 -- Digits are ASCII, with and without the zeros at their end, and a text is one moment at most.
-use Rattle.std.proofs.Common.{◌≡◌, ℕ, zero, suc, ◌+◌, ◌<◌, ◌≤◌, ◌==◌, Bool, true, false, cond, Option, Some, None, MatchOption, IfSome, option_and_then, List, [], ◌∷◌, ◌++◌}
+use Rattle.std.proofs.Common.{◌≡◌, ℕ, zero, suc, ◌+◌, ◌≤◌, ◌==◌, Bool, true, false, cond, Option, Some, None, MatchOption, IfSome, option_and_then, List, [], ◌∷◌, ◌++◌}
 use Rattle.std.proofs.Common.{length, take, drop, min, nat_le, refl, sym, ap, subst, ◌∙◌, arith, ℤ, pos}
 use Rattle.std.specs.Char.{is_ascii_digit}
 use Rattle.std.specs.Str.{IsAscii}
@@ -18,11 +18,9 @@ use Rattle.csvw_datatype_core.specs.LexicalDates.{IsMomentNumber}
 use Rattle.csvw_datatype_core.specs.Moments.{ReadsMoment}
 use Rattle.csvw_datatype_core.specs.Values.{moment_value}
 use Rattle.csvw_datatype_core.specs.DateParts.{digit_count}
-use Rattle.csvw_datatype_core.specs.DateTimes.{digits_at, fraction_at, with_first, trimmed, zone_at, is_moment_number, local, placed, placed_by, parts_of, date_time_value}
+use Rattle.csvw_datatype_core.specs.DateTimes.{fraction_at, with_first, trimmed, zone_at, local, placed, placed_by, parts_of, date_time_value}
 use Rattle.csvw_datatype_core.proofs.AsciiLemmas.{AllAscii, is_ascii}
-use Rattle.csvw_datatype_core.proofs.LexicalDateLemmas.{moment_in_range}
-use Rattle.csvw_datatype_core.proofs.OneValue.{one_moment}
-use Rattle.csvw_datatype_core.proofs.ValueLemmas.{moment_given}
+use Rattle.csvw_datatype_core.proofs.MomentLemmas.{moment_in_range, moment_given, one_moment}
 
 -- ---- digits
 

@@ -17,7 +17,8 @@ use Rattle.csvw_datatype_core.specs.declared.date.DateFormat.TheVariants.{YearFi
 use Rattle.csvw_datatype_core.specs.declared.moment.MomentFormat.{MomentFormat}
 use Rattle.csvw_datatype_core.specs.declared.moment.MomentFormat.TheVariants.{Seconds}
 use Rattle.csvw_datatype_core.specs.Dates.{IsDay, day_number, IsField, ReadsDate}
-use Rattle.csvw_datatype_core.specs.Moments.{IsPair, ReadsTime, ReadsMoment}
+use Rattle.csvw_datatype_core.specs.JoinedMoments.{IsPair, ReadsTime, ReadsJoined}
+use Rattle.csvw_datatype_core.specs.Moments.{ReadsMoment}
 use Rattle.csvw_datatype_core.specs.LexicalDates.{IsDayNumber, IsMomentNumber, two_digits, four_digits, date_digits, time_digits, IsFields}
 use Rattle.csvw_datatype_core.specs.LexicalDates.{IsDayAndSecond, AppendsDate, AppendsTime}
 use Rattle.csvw_datatype_core.proofs.DateLemmas.{Digits, two_in_front, value_two, value_four, all_append}
@@ -177,11 +178,11 @@ date_in_range f text day r = subst IsDayNumber (sym r.is_value) (day_in_range _ 
 pub time_in_range : (f : MomentFormat) (text : List ℕ) (second : ℕ) → ReadsTime f text second → second < 86_400
 time_in_range f text second r = omega (arith, r.is_value, r.is_hour.2, r.is_minute.2, seconds_below f r.tail r.s r.is_second)
 
-in_range : (day moment : ℤ) (second : ℕ) → IsDayNumber day → second < 86_400 → moment ≡ (day *ℤ pos 86_400) +ℤ pos second → IsMomentNumber moment
+pub in_range : (day moment : ℤ) (second : ℕ) → IsDayNumber day → second < 86_400 → moment ≡ (day *ℤ pos 86_400) +ℤ pos second → IsMomentNumber moment
 in_range day moment second h l e = (omega (arith, ints, h.0, h.1, l, e), omega (arith, ints, h.0, h.1, l, e))
 
-pub moment_in_range : (f : MomentFormat) (text : List ℕ) (moment : ℤ) → ReadsMoment f text moment → IsMomentNumber moment
-moment_in_range f text moment r =
+pub joined_in_range : (f : MomentFormat) (text : List ℕ) (moment : ℤ) → ReadsJoined f text moment → IsMomentNumber moment
+joined_in_range f text moment r =
     in_range r.day moment r.second (date_in_range YearFirst r.date r.day r.is_date) (time_in_range f r.time r.second r.is_time) r.is_value
 
 pos_abs : (z : ℤ) → pos 1 ≤ℤ z → z ≡ pos (unsigned_abs z)

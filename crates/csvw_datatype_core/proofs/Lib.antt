@@ -25,4 +25,6 @@ mod OneNumberText
 mod FormLemmas
 mod EveryDay
 mod ValueLemmas
+mod SpacedLemmas
+mod MomentLemmas
 mod DateTimeLemmas

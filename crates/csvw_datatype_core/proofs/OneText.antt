@@ -13,7 +13,8 @@ use Rattle.jiff_core.proofs.CalendarLemmas.{days_from_civil-day_count, day_count
 use Rattle.csvw_datatype_core.specs.declared.date.DateFormat.TheVariants.{YearFirst}
 use Rattle.csvw_datatype_core.specs.declared.moment.MomentFormat.TheVariants.{Seconds}
 use Rattle.csvw_datatype_core.specs.Dates.{date_text, IsDay, day_number, IsField, ReadsDate}
-use Rattle.csvw_datatype_core.specs.Moments.{IsPair, ReadsTime, ReadsMoment}
+use Rattle.csvw_datatype_core.specs.JoinedMoments.{IsPair, ReadsTime}
+use Rattle.csvw_datatype_core.specs.Moments.{ReadsMoment}
 use Rattle.csvw_datatype_core.proofs.Counts.{value-cons, value-below}
 use Rattle.csvw_datatype_core.proofs.TimeLemmas.{seconds_below}
 use Rattle.csvw_datatype_core.proofs.LexicalDateLemmas.{in_month, civil_of, time_in_range}

@@ -14,7 +14,7 @@ use Rattle.csvw_datatype_core.specs.declared.date.DateFormat.{DateFormat}
 use Rattle.csvw_datatype_core.specs.declared.date.DateFormat.TheVariants.{YearFirst}
 use Rattle.csvw_datatype_core.specs.declared.moment.MomentFormat.{MomentFormat}
 use Rattle.csvw_datatype_core.specs.Dates.{day_number, ReadsDate}
-use Rattle.csvw_datatype_core.specs.Moments.{ReadsTime, ReadsMoment}
+use Rattle.csvw_datatype_core.specs.JoinedMoments.{ReadsTime, ReadsJoined}
 use Rattle.csvw_datatype_core.proofs.DateLemmas.{some_same, reads_fields}
 use Rattle.csvw_datatype_core.proofs.TimeLemmas.{time_again, parts_of}
 
@@ -59,8 +59,8 @@ one_time f text a b r s =
     r.is_value ∙ ap (λ (x : ℕ × ℕ × ℕ). x.0 * 3600 + x.1 * 60 + x.2) same ∙ sym s.is_value
 
 -- and one moment
-pub one_moment : (f : MomentFormat) (text : List ℕ) (a b : ℤ) → ReadsMoment f text a → ReadsMoment f text b → a ≡ b
-one_moment f text a b r s =
+pub one_joined : (f : MomentFormat) (text : List ℕ) (a b : ℤ) → ReadsJoined f text a → ReadsJoined f text b → a ≡ b
+one_joined f text a b r s =
     let p = parts_of f text a r in
     let q = parts_of f text b s in
     p.value ∙ ap (λ d. (d *ℤ pos 86_400) +ℤ pos p.second) (one_date YearFirst (take 10 text) p.day q.day p.date q.date)

@@ -5,9 +5,9 @@ use Rattle.std.specs.Str.Parse.{digits_value}
 use Rattle.std.proofs.Math.Seq.{take-append_seam, drop-append_seam}
 use Rattle.csvw_datatype_core.specs.declared.date.DateFormat.TheVariants.{YearFirst}
 use Rattle.csvw_datatype_core.specs.declared.moment.MomentFormat.{MomentFormat}
-use Rattle.csvw_datatype_core.specs.declared.moment.MomentFormat.TheVariants.{Seconds, Minutes}
+use Rattle.csvw_datatype_core.specs.declared.moment.MomentFormat.TheVariants.{Seconds, Minutes, Spaced}
 use Rattle.csvw_datatype_core.specs.Dates.{ReadsDate}
-use Rattle.csvw_datatype_core.specs.Moments.{IsPair, IsSeconds, ReadsTime, ReadsMoment}
+use Rattle.csvw_datatype_core.specs.JoinedMoments.{IsPair, IsSeconds, ReadsTime, ReadsJoined}
 use Rattle.csvw_datatype_core.specs.Fields.{after_separator, two_at, at_end}
 use Rattle.csvw_datatype_core.specs.TimeFields.{IsTimeOfDay, second_field, time_fields}
 use Rattle.csvw_datatype_core.proofs.DateLemmas.{Digits, two_sound, two_again, bind_some, bind_number, separator_sound, end_sound}
@@ -45,6 +45,7 @@ second_sound Minutes bs x h =
     let e = bind_some (at_end bs) _ _ h in
     let same = some_same 0 x 0 e.rest_is in
     record { s = []; value = sym same; right = λ l. (end_sound bs e.value e.first_is, refl) }
+second_sound (Spaced date time) bs x h = cc
 
 triple : ℕ → ℕ → ℕ → ℕ × ℕ × ℕ
 triple h m s = (h, m, s)
@@ -85,6 +86,7 @@ second_again Seconds tail s h =
     let b : two_at s ≡ Some (digits_value 10 s, []) = ap two_at (sym (append-nil s)) ∙ two_again s [] (pair_digits s 60 h.1) in
     rw (h.0, b) refl
 second_again Minutes tail s h = rw (h.0, h.1) refl
+second_again (Spaced date time) tail s h = absurd h
 
 -- what is read has fields in range
 pub time_again : (f : MomentFormat) (bs : List ℕ) (second : ℕ) → (r : ReadsTime f bs second)
@@ -99,6 +101,7 @@ time_again f bs second r =
 pub seconds_below : (f : MomentFormat) (tail s : List ℕ) → IsSeconds f tail s → digits_value 10 s < 60
 seconds_below Seconds tail s h = pair_below s 60 h.1
 seconds_below Minutes tail s h = rw h.1 (omega arith)
+seconds_below (Spaced date time) tail s h = absurd h
 
 pub no_time_fields : (f : MomentFormat) (bs : List ℕ) → time_fields f bs ≡ None → (second : ℕ) → ReadsTime f bs second → ⊥
 no_time_fields f bs h second r = let e = time_again f bs second r in cc
@@ -126,7 +129,7 @@ date_length text day r =
     let d : length r.d ≡ 2 = elim r.date.count [ inl two ↦ two | inr one ↦ absurd one.0 ] in
     ap length r.spelled ∙ length-append r.y (45 ∷ (r.m ++ (45 ∷ r.d))) ∙ omega (arith, r.year.1, m, d, length-append r.m (45 ∷ r.d))
 
-pub moment_long : (f : MomentFormat) (text : List ℕ) → length text < 10 → (moment : ℤ) → ReadsMoment f text moment → ⊥
+pub moment_long : (f : MomentFormat) (text : List ℕ) → length text < 10 → (moment : ℤ) → ReadsJoined f text moment → ⊥
 moment_long f text short moment r = omega (arith, short, ap length r.spelled, length-append r.date r.time, date_length r.date r.day r.is_date)
 
 -- a moment has its date in front of its time
@@ -143,7 +146,7 @@ take_front xs ys n e = ap (λ k. take k (xs ++ ys)) (sym e) ∙ take-append_seam
 drop_front : (xs ys : List ℕ) (n : ℕ) → length xs ≡ n → drop n (xs ++ ys) ≡ ys
 drop_front xs ys n e = ap (λ k. drop k (xs ++ ys)) (sym e) ∙ drop-append_seam xs ys
 
-pub parts_of : (f : MomentFormat) (text : List ℕ) (moment : ℤ) → ReadsMoment f text moment → Parts f text moment
+pub parts_of : (f : MomentFormat) (text : List ℕ) (moment : ℤ) → ReadsJoined f text moment → Parts f text moment
 parts_of f text moment r =
     let l = date_length r.date r.day r.is_date in
     let a : take 10 text ≡ r.date = ap (take 10) r.spelled ∙ take_front r.date r.time 10 l in
@@ -152,13 +155,13 @@ parts_of f text moment r =
     let Q : List ℕ → Type 0 = λ t. ReadsTime f t r.second in
     record { day = r.day; second = r.second; date = subst P (sym a) r.is_date; time = subst Q (sym b) r.is_time; value = r.is_value }
 
-pub no_date : (f : MomentFormat) (text : List ℕ) → ((day : ℤ) → ReadsDate YearFirst (take 10 text) day → ⊥) → (moment : ℤ) → ReadsMoment f text moment → ⊥
+pub no_date : (f : MomentFormat) (text : List ℕ) → ((day : ℤ) → ReadsDate YearFirst (take 10 text) day → ⊥) → (moment : ℤ) → ReadsJoined f text moment → ⊥
 no_date f text never moment r = let p = parts_of f text moment r in never p.day p.date
 
-pub no_time_of_day : (f : MomentFormat) (text : List ℕ) → ((second : ℕ) → ReadsTime f (drop 10 text) second → ⊥) → (moment : ℤ) → ReadsMoment f text moment → ⊥
+pub no_time_of_day : (f : MomentFormat) (text : List ℕ) → ((second : ℕ) → ReadsTime f (drop 10 text) second → ⊥) → (moment : ℤ) → ReadsJoined f text moment → ⊥
 no_time_of_day f text never moment r = let p = parts_of f text moment r in never p.second p.time
 
 pub moment_read : (f : MomentFormat) (text : List ℕ) (day : ℤ) (second : ℕ) (moment : ℤ) → take 10 text ++ drop 10 text ≡ text
-    → ReadsDate YearFirst (take 10 text) day → ReadsTime f (drop 10 text) second → moment ≡ (day *ℤ pos 86_400) +ℤ pos second → ReadsMoment f text moment
+    → ReadsDate YearFirst (take 10 text) day → ReadsTime f (drop 10 text) second → moment ≡ (day *ℤ pos 86_400) +ℤ pos second → ReadsJoined f text moment
 moment_read f text day second moment whole d t e =
     record { date = take 10 text; time = drop 10 text; day = day; second = second; is_date = d; is_time = t; spelled = sym whole; is_value = e }

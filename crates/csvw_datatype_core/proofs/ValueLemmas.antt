@@ -10,10 +10,10 @@ use Rattle.csvw_datatype_core.specs.Scan.{ends}
 use Rattle.csvw_datatype_core.specs.Step.{begun, run, count_of}
 use Rattle.csvw_datatype_core.specs.Numbers.{IsLawful, ReadsNumber}
 use Rattle.csvw_datatype_core.specs.Dates.{IsDay, day_number, ReadsDate}
-use Rattle.csvw_datatype_core.specs.Moments.{ReadsTime, ReadsMoment}
+use Rattle.csvw_datatype_core.specs.JoinedMoments.{ReadsTime, ReadsJoined}
 use Rattle.csvw_datatype_core.specs.Fields.{date_fields}
 use Rattle.csvw_datatype_core.specs.TimeFields.{IsTimeOfDay, time_fields}
-use Rattle.csvw_datatype_core.specs.Values.{signed_count, number_value, is_day, day_of, date_value, is_time_of_day, second_of, together, moment_value}
+use Rattle.csvw_datatype_core.specs.Values.{signed_count, number_value, is_day, day_of, date_value, is_time_of_day, second_of, together, joined_value}
 use Rattle.csvw_datatype_core.proofs.ReadLemmas.{spells_nothing, reads_nothing, reads}
 use Rattle.csvw_datatype_core.proofs.DateLemmas.{no_fields, day_answer}
 use Rattle.csvw_datatype_core.proofs.TimeLemmas.{no_time_fields, time_answer, no_date, no_time_of_day, moment_read}
@@ -28,8 +28,8 @@ IsDateGiven f text o = MatchOption o ((day : ℤ) → ReadsDate f text day → �
 abbrev IsTimeGiven : MomentFormat → List ℕ → Option ℕ → Type 0
 IsTimeGiven f text o = MatchOption o ((second : ℕ) → ReadsTime f text second → ⊥) (ReadsTime f text)
 
-abbrev IsMomentGiven : MomentFormat → List ℕ → Option ℤ → Type 0
-IsMomentGiven f text o = MatchOption o ((moment : ℤ) → ReadsMoment f text moment → ⊥) (ReadsMoment f text)
+abbrev IsJoinedGiven : MomentFormat → List ℕ → Option ℤ → Type 0
+IsJoinedGiven f text o = MatchOption o ((moment : ℤ) → ReadsJoined f text moment → ⊥) (ReadsJoined f text)
 
 scan_given : (rules : NumberRules) (l : IsLawful rules) (cs : List ℕ) (b : Bool) (o : Option ℕ) → ends (run rules begun cs).place ≡ b
     → count_of (run rules begun cs) ≡ o → IsNumberGiven rules cs (cond b (signed_count (run rules begun cs).minus o) None)
@@ -62,10 +62,10 @@ pub date_given : (f : DateFormat) (text : List ℕ) → IsDateGiven f text (date
 unfolding date_value
 date_given f text = day_given f text _ refl
 
-time_tested : (h m s : ℕ) → is_time_of_day h m s ≡ true → IsTimeOfDay h m s
+pub time_tested : (h m s : ℕ) → is_time_of_day h m s ≡ true → IsTimeOfDay h m s
 time_tested h m s is = grind (arith, nat_tests)
 
-no_time_tested : (h m s : ℕ) → is_time_of_day h m s ≡ false → IsTimeOfDay h m s → ⊥
+pub no_time_tested : (h m s : ℕ) → is_time_of_day h m s ≡ false → IsTimeOfDay h m s → ⊥
 no_time_tested h m s never is = grind (arith, nat_tests)
 
 time_given : (f : MomentFormat) (text : List ℕ) (o : Option (ℕ × ℕ × ℕ)) → time_fields f text ≡ o → IsTimeGiven f text (second_of o)
@@ -75,11 +75,11 @@ time_given f text (Some x) h =
     (tested _ _ (x.0 * 3600 + x.1 * 60 + x.2) (time_tested x.0 x.1 x.2) (no_time_tested x.0 x.1 x.2))
 
 both_given : (f : MomentFormat) (text : List ℕ) (day : Option ℤ) (second : Option ℕ) → IsDateGiven YearFirst (take 10 text) day
-    → IsTimeGiven f (drop 10 text) second → IsMomentGiven f text (together day second)
+    → IsTimeGiven f (drop 10 text) second → IsJoinedGiven f text (together day second)
 both_given f text None second d s = no_date f text d
 both_given f text (Some day) None d s = no_time_of_day f text s
 both_given f text (Some day) (Some second) d s = moment_read f text day second _ (take-append-drop 10 text) d s refl
 
-pub moment_given : (f : MomentFormat) (text : List ℕ) → IsMomentGiven f text (moment_value f text)
-unfolding moment_value
-moment_given f text = both_given f text _ _ (day_given YearFirst (take 10 text) _ refl) (time_given f (drop 10 text) _ refl)
+pub joined_given : (f : MomentFormat) (text : List ℕ) → IsJoinedGiven f text (joined_value f text)
+unfolding joined_value
+joined_given f text = both_given f text _ _ (day_given YearFirst (take 10 text) _ refl) (time_given f (drop 10 text) _ refl)

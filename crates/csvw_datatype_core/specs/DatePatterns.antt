@@ -6,8 +6,9 @@ use Rattle.csvw_datatype_core.specs.declared.date.FieldDigits.TheVariants.{Two, 
 use Rattle.csvw_datatype_core.specs.declared.date.DateFormat.{DateFormat}
 use Rattle.csvw_datatype_core.specs.declared.date.DateFormat.TheVariants.{YearFirst, Compact, DayFirst, MonthFirst}
 use Rattle.csvw_datatype_core.specs.declared.moment.MomentFormat.{MomentFormat}
-use Rattle.csvw_datatype_core.specs.declared.moment.MomentFormat.TheVariants.{Seconds, Minutes}
+use Rattle.csvw_datatype_core.specs.declared.moment.MomentFormat.TheVariants.{Seconds, Minutes, Spaced}
 use Rattle.csvw_datatype_core.specs.Dates.{separator_byte}
+use Rattle.csvw_datatype_core.specs.Times.{time_pattern}
 
 abbrev pub day_letters : FieldDigits → List ℕ
 day_letters Two = codes "dd"
@@ -26,3 +27,4 @@ date_pattern (MonthFirst digits by) = month_letters digits ++ (separator_byte by
 abbrev pub moment_pattern : MomentFormat → List ℕ
 moment_pattern Seconds = codes "yyyy-MM-ddTHH:mm:ss"
 moment_pattern Minutes = codes "yyyy-MM-ddTHH:mm"
+moment_pattern (Spaced date time) = date_pattern date ++ (32 ∷ time_pattern time)

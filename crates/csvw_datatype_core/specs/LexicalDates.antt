@@ -4,7 +4,7 @@ use Rattle.std.specs.Prelude.{◌≡◌, ℕ, ◌+◌, ◌/◌, ◌%◌, ◌<◌
 use Rattle.csvw_datatype_core.specs.declared.date.DateFormat.TheVariants.{YearFirst}
 use Rattle.csvw_datatype_core.specs.declared.moment.MomentFormat.TheVariants.{Seconds}
 use Rattle.csvw_datatype_core.specs.Dates.{date_text, IsDay, day_number, ReadsDate}
-use Rattle.csvw_datatype_core.specs.Moments.{ReadsTime}
+use Rattle.csvw_datatype_core.specs.JoinedMoments.{ReadsTime}
 
 -- the day number of a day of the years 0001 to 9999
 abbrev pub IsDayNumber : ℤ → Type 0

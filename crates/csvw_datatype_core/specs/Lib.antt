@@ -7,6 +7,7 @@ pub mod NumberPatterns
 pub mod LexicalNumbers
 pub mod Dates
 pub mod Fields
+pub mod JoinedMoments
 pub mod Moments
 pub mod TimeFields
 pub mod LexicalDates

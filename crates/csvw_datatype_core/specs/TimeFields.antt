@@ -1,7 +1,7 @@
 -- The fields of a time of day, from the start of a text (Model for Tabular Data, section 6.4.4).
-use Rattle.std.specs.Prelude.{ℕ, ◌<◌, Option, Some, List}
+use Rattle.std.specs.Prelude.{ℕ, ◌<◌, Option, Some, None, List}
 use Rattle.csvw_datatype_core.specs.declared.moment.MomentFormat.{MomentFormat}
-use Rattle.csvw_datatype_core.specs.declared.moment.MomentFormat.TheVariants.{Seconds, Minutes}
+use Rattle.csvw_datatype_core.specs.declared.moment.MomentFormat.TheVariants.{Seconds, Minutes, Spaced}
 use Rattle.csvw_datatype_core.specs.Fields.{◌>>=◌, after_separator, two_at, at_end}
 
 -- the seconds at the end of a text
@@ -14,6 +14,7 @@ second_field Seconds bs = do
 second_field Minutes bs = do
   end ← at_end bs
   Some 0
+second_field (Spaced date time) bs = None
 
 unfoldable pub time_fields : MomentFormat → List ℕ → Option (ℕ × ℕ × ℕ)
 time_fields format bs = do

@@ -1,8 +1,15 @@
 //! The patterns of dates and moments.
-ghost use Rattle.std.specs.Prelude.{◌≡◌, ◌≢◌, MatchOption};
+ghost use Rattle.std.specs.Prelude.{◌≡◌, ◌≢◌, ◌++◌, MatchOption, OnOk, string_bytes};
+ghost use Rattle.csvw_datatype_core.specs.declared.date.DateFormat.{DateFormat};
+ghost use Rattle.csvw_datatype_core.specs.declared.time.TimeFormat.{TimeFormat};
+ghost use Rattle.csvw_datatype_core.specs.declared.moment.MomentFormat.TheVariants.{Spaced};
+ghost use Rattle.csvw_datatype_core.specs.DatePatterns.{moment_pattern};
 
 use crate::date::{DateFormat, FieldDigits, Separator};
 use crate::moment::MomentFormat;
+use crate::spaced_moment::at_space;
+use crate::time::TimeFormat;
+use std::alloc::AllocError;
 
 impl DateFormat {
     ghost use Rattle.csvw_datatype_core.specs.declared.date.DateFormat.{DateFormat};
@@ -60,8 +67,8 @@ impl MomentFormat {
     ghost use Rattle.csvw_datatype_core.specs.declared.moment.MomentFormat.{MomentFormat};
     ghost use Rattle.csvw_datatype_core.specs.DatePatterns.{moment_pattern};
 
-    /// Returns the format of a pattern, or `None` if it is not one of the two patterns (Model for Tabular Data and
-    /// Metadata on the Web, section 6.4.4).
+    /// Returns the format of a pattern, or `None` if it is not one of the patterns (Model for Tabular Data and
+    /// Metadata on the Web, section 6.4.4): the two with a `T`, and each pattern of a date, a space, and one of a time of day.
     pub fn of(pattern: &str) -> Option<MomentFormat>
         ensures { MatchOption result ((f : MomentFormat) → pattern.now ≢ moment_pattern f)
             (λ f. pattern.now ≡ moment_pattern f) }
@@ -69,17 +76,30 @@ impl MomentFormat {
         match pattern {
             "yyyy-MM-ddTHH:mm:ss" => Some(MomentFormat::Seconds),
             "yyyy-MM-ddTHH:mm" => Some(MomentFormat::Minutes),
-            _ => None,
+            _ => spaced_format(pattern),
         }
     }
 
-    /// Returns the pattern of the format, which `of` reads.
-    pub fn pattern(self) -> &'static str
-        ensures { result.now ≡ moment_pattern self }
+    /// Appends the pattern of the format, which `of` reads, to a text. Returns `AllocError` if memory runs out.
+    pub fn push_pattern(self, text: &mut String) -> Result<(), AllocError>
+        ensures { OnOk result (string_bytes text.new ≡ string_bytes text.old ++ moment_pattern self) }
     {
         match self {
-            MomentFormat::Seconds => "yyyy-MM-ddTHH:mm:ss",
-            MomentFormat::Minutes => "yyyy-MM-ddTHH:mm",
+            MomentFormat::Seconds => text.push_str("yyyy-MM-ddTHH:mm:ss"),
+            MomentFormat::Minutes => text.push_str("yyyy-MM-ddTHH:mm"),
+            MomentFormat::Spaced(date, time) => {
+                text.push_str(date.pattern())?;
+                text.push_str(" ")?;
+                text.push_str(time.pattern())
+            }
         }
     }
+}
+
+fn spaced_format(pattern: &str) -> Option<MomentFormat>
+    ensures { MatchOption result ((date : DateFormat) (time : TimeFormat) → pattern.now ≢ moment_pattern (Spaced date time))
+        (λ f. pattern.now ≡ moment_pattern f) }
+{
+    let (date, time) = at_space(pattern)?;
+    Some(MomentFormat::Spaced(DateFormat::of(date)?, TimeFormat::of(time)?))
 }

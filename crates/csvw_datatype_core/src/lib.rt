@@ -30,6 +30,7 @@ mod moment;
 mod number;
 mod number_pattern;
 mod short_number;
+mod spaced_moment;
 mod time;
 mod values;
 mod xml_name;

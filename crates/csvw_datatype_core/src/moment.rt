@@ -1,17 +1,22 @@
 //! How a text writes a date and a time of day.
 ghost use Rattle.std.specs.Prelude.{◌≡◌, ◌≤◌, ◌<◌, ◌+◌, ◌*◌, MatchOption, ℕ, ℤ, pos, ◌+ℤ◌, ◌*ℤ◌, ◌-◌};
-ghost use Rattle.csvw_datatype_core.specs.Moments.{ReadsMoment, ReadsTime};
+ghost use Rattle.csvw_datatype_core.specs.JoinedMoments.{ReadsJoined, ReadsTime};
+ghost use Rattle.csvw_datatype_core.specs.Moments.{ReadsMoment};
 ghost use Rattle.csvw_datatype_core.specs.TimeFields.{IsTimeOfDay, time_fields, second_field};
 
 use crate::date::{DateFormat, ended, past, read_day, two};
+use crate::spaced_moment::read_spaced;
+use crate::time::TimeFormat;
 
-/// The precision of a moment (Model for Tabular Data and Metadata on the Web, section 6.4.4).
+/// How a date and a time of day are written (Model for Tabular Data and Metadata on the Web, section 6.4.4).
 #[derive(Clone, Copy, Debug, PartialEq, Eq)]
 pub enum MomentFormat {
     /// `yyyy-MM-ddTHH:mm:ss`.
     Seconds,
     /// `yyyy-MM-ddTHH:mm`. The seconds are 0.
     Minutes,
+    /// A date, one space and a time of day, as in `dd/MM/yyyy HH:mm`.
+    Spaced(DateFormat, TimeFormat),
 }
 
 /// The number of bytes of a date in the format `yyyy-MM-dd`.
@@ -23,12 +28,16 @@ const DATE_LEN: usize = 10;
 pub fn read_moment(format: MomentFormat, text: &str) -> Option<i64>
     ensures { MatchOption result ((moment : ℤ) → ReadsMoment format text.now moment → ⊥) (ReadsMoment format text.now) }
 {
-    moment_at(format, text.as_bytes())
+    match format {
+        MomentFormat::Seconds => moment_at(MomentFormat::Seconds, text.as_bytes()),
+        MomentFormat::Minutes => moment_at(MomentFormat::Minutes, text.as_bytes()),
+        MomentFormat::Spaced(date, time) => read_spaced(date, time, text),
+    }
 }
 
-/// Returns the moment that bytes write, as `read_moment` does.
+/// Returns the moment that bytes with a `T` write, as `read_moment` does. Returns `None` for a format with a space.
 pub(crate) fn moment_at(format: MomentFormat, bytes: &[u8]) -> Option<i64>
-    ensures { MatchOption result ((moment : ℤ) → ReadsMoment format bytes.now moment → ⊥) (ReadsMoment format bytes.now) }
+    ensures { MatchOption result ((moment : ℤ) → ReadsJoined format bytes.now moment → ⊥) (ReadsJoined format bytes.now) }
 {
     if bytes.len() < DATE_LEN {
         return None;
@@ -39,7 +48,7 @@ pub(crate) fn moment_at(format: MomentFormat, bytes: &[u8]) -> Option<i64>
     Some(moment_of(day, second))
 }
 
-fn moment_of(day: i32, second: u32) -> i64
+pub(crate) fn moment_of(day: i32, second: u32) -> i64
     ensures { result ≡ (day *ℤ pos 86_400) +ℤ pos second }
 {
     day as i64 * 86_400 + second as i64
@@ -52,7 +61,7 @@ fn read_time(format: MomentFormat, bytes: &[u8]) -> Option<u32>
     second_of_day(hour, minute, second)
 }
 
-fn second_of_day(hour: u8, minute: u8, second: u8) -> Option<u32>
+pub(crate) fn second_of_day(hour: u8, minute: u8, second: u8) -> Option<u32>
     ensures { MatchOption result (¬ IsTimeOfDay hour minute second)
         (λ n. IsTimeOfDay hour minute second × (n ≡ hour * 3600 + minute * 60 + second)) }
 {
@@ -86,6 +95,7 @@ fn last_field(format: MomentFormat, bytes: &[u8]) -> Option<u8>
             ended(bytes)?;
             Some(0)
         }
+        MomentFormat::Spaced(..) => None,
     }
 }
 

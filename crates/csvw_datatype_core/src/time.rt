@@ -89,7 +89,7 @@ fn seconds(format: TimeFormat, bytes: &[u8]) -> Option<u8>
 }
 
 #[tactic(auto, unfolding(crate::specs::Times::clock_fields))]
-fn clock_fields(format: TimeFormat, bytes: &[u8]) -> Option<(u8, u8, u8)>
+pub(crate) fn clock_fields(format: TimeFormat, bytes: &[u8]) -> Option<(u8, u8, u8)>
     ensures { result ≡ clock_fields format bytes.now }
 {
     let (hour, rest) = two(bytes)?;

@@ -1,3 +1,3 @@
 mod NameLemmas
-mod ReadLemmas
+mod KindLemmas
 mod Sending

@@ -1,37 +1,95 @@
--- Which texts are values of the datatypes that a draft gives to columns.
-use Rattle.std.specs.Prelude.{◌≡◌, ◌⊎◌, ⊤, ℕ, ℤ, false, List, Some, None, codes}
-use Rattle.std.specs.List.{All}
+-- The datatypes that a draft gives to columns, and which texts are values of each.
+use Rattle.std.specs.Prelude.{◌||◌, ◌==◌, ℕ, Bool, true, false, Option, Some, None, List, [], ◌∷◌, ◌++◌, map, codes, bytes_eq, if◌then◌else◌}
+use Rattle.std.specs.List.{filter}
+use Rattle.std.specs.Option.{is_some}
 use Rattle.std.specs.Str.{chars}
 use Rattle.csvw_datatype_core.specs.declared.number.NumberRules.{NumberRules}
-use Rattle.csvw_datatype_core.specs.Numbers.{ReadsNumber}
-use Rattle.csvw_datatype_core.specs.Dates.{ReadsDate}
-use Rattle.csvw_datatype_core.specs.Moments.{ReadsMoment}
+use Rattle.csvw_datatype_core.specs.declared.date.DateFormat.{DateFormat}
+use Rattle.csvw_datatype_core.specs.declared.moment.MomentFormat.TheVariants.{Seconds, Minutes, Spaced}
+use Rattle.csvw_datatype_core.specs.declared.time.TimeFormat.{TimeFormat}
+use Rattle.csvw_datatype_core.specs.declared.time.TimeFormat.TheVariants as times
+use Rattle.csvw_datatype_core.specs.declared.date_time.Zone.TheVariants.{Optional}
+use Rattle.csvw_datatype_core.specs.Values.{number_value, date_value, moment_value}
 use Rattle.csvw_datatype_core.specs.Times.{time_form}
 use Rattle.csvw_datatype_core.specs.DateTimes.{date_time_value}
-use Rattle.csvw_datatype_core.specs.declared.date_time.DateTime.{DateTime}
-use Rattle.csvw_datatype_core.specs.declared.date_time.Zone.TheVariants.{Optional}
 use Rattle.csvw_double.specs.Forms.{double_form}
-use Rattle.csvw_datatype.specs.Reads.{whole_rules, decimal_rules}
+use Rattle.csvw_meta_core.specs.declared.profile.Profile.{Profile}
+use Rattle.csvw_meta_core.specs.declared.profile.Profile.TheVariants.{Core, W3c}
+use Rattle.csvw_meta_datatype.specs.Patterns.{date_formats}
 use Rattle.csvw_draft.specs.declared.kind.Kind.{Kind}
 use Rattle.csvw_draft.specs.declared.kind.Kind.TheVariants as kinds
 
--- decimals with a comma
-abbrev pub comma_rules : NumberRules
-comma_rules = record { decimal_char = Some 44; group_char = None; allows_marks = false }
+-- numbers with this decimal character, or without one, and without a group character
+abbrev pub rules_with : Option ℕ → NumberRules
+rules_with point = record { decimal_char = point; group_char = None; allows_marks = false }
 
--- The text is a value of the datatype, as a cell of a column without a format of numbers. Of booleans only `true` and `false` are.
-abbrev pub Reads : Kind → List ℕ → Type 0
-Reads kinds.Truth text = (text ≡ codes "true") ⊎ (text ≡ codes "false")
-Reads kinds.Whole text = (z : ℤ) × ReadsNumber (whole_rules None) (chars text) z
-Reads kinds.Decimal text = (z : ℤ) × ReadsNumber (decimal_rules None) (chars text) z
-Reads kinds.DecimalComma text = (z : ℤ) × ReadsNumber comma_rules (chars text) z
-Reads (kinds.Day format) text = (day : ℤ) × ReadsDate format text day
-Reads (kinds.Moment format) text = (moment : ℤ) × ReadsMoment format text moment
-Reads kinds.Double text = (form : List ℕ) × (double_form text ≡ Some form)
-Reads (kinds.Time format) text = (form : List ℕ) × (time_form format text ≡ Some form)
-Reads kinds.MomentWithZone text = (value : DateTime) × (date_time_value Optional text ≡ Some value)
-Reads kinds.Text text = ⊤
+-- Whether the text is a value of the datatype. Of booleans only `true` and `false` are: `1` and `0` are integers here.
+abbrev pub reads : Kind → List ℕ → Bool
+reads kinds.Truth text = bytes_eq text (codes "true") || bytes_eq text (codes "false")
+reads kinds.Whole text = is_some (number_value (rules_with None) (chars text))
+reads kinds.Decimal text = is_some (number_value (rules_with (Some 46)) (chars text))
+reads kinds.DecimalComma text = is_some (number_value (rules_with (Some 44)) (chars text))
+reads (kinds.Day format) text = is_some (date_value format text)
+reads (kinds.Moment format) text = is_some (moment_value format text)
+reads kinds.Double text = is_some (double_form text)
+reads (kinds.Time format) text = is_some (time_form format text)
+reads kinds.MomentWithZone text = is_some (date_time_value Optional text)
+reads kinds.Text text = true
 
--- each text is a value of each of the datatypes
-abbrev pub ReadAll : List Kind → List (List ℕ) → Type 0
-ReadAll kinds texts = All (λ kind. All (Reads kind) texts) kinds
+-- those of some datatypes of which a text is a value
+abbrev pub readers : List Kind → List ℕ → List Kind
+readers kinds text = filter (λ kind. reads kind text) kinds
+
+-- dates in each of some formats
+abbrev pub day_kinds : List DateFormat → List Kind
+day_kinds dates = map (λ date. kinds.Day date) dates
+
+-- the datatypes besides `string` that each document may use, from the narrowest on
+abbrev pub core_kinds : List Kind
+core_kinds =
+    (kinds.Truth ∷ kinds.Whole ∷ kinds.Decimal ∷ []) ++ (day_kinds date_formats ++ (kinds.Moment Seconds ∷ kinds.Moment Minutes ∷ []))
+
+-- moments with a space, for each format of dates
+abbrev pub spaced_kinds : TimeFormat → List DateFormat → List Kind
+spaced_kinds time dates = map (λ date. kinds.Moment (Spaced date time)) dates
+
+-- the datatypes that a document of the profile w3c may use besides
+abbrev pub w3c_kinds : List Kind
+w3c_kinds =
+    (kinds.Double ∷ kinds.Time times.Seconds ∷ kinds.Time times.Minutes ∷ kinds.MomentWithZone ∷ [])
+    ++ (spaced_kinds times.Seconds date_formats ++ spaced_kinds times.Minutes date_formats)
+
+-- decimals may have a comma where `;` is the delimiter
+abbrev pub comma_kinds : ℕ → List Kind
+comma_kinds delimiter = if delimiter == 59 then kinds.DecimalComma ∷ [] else []
+
+-- the datatypes besides `string` that a draft looks for in a file with this delimiter
+abbrev pub kinds_of : ℕ → List Kind
+kinds_of delimiter = core_kinds ++ (comma_kinds delimiter ++ w3c_kinds)
+
+-- whether each document may use the datatype
+abbrev pub is_core : Kind → Bool
+is_core kinds.Truth = true
+is_core kinds.Whole = true
+is_core kinds.Decimal = true
+is_core kinds.DecimalComma = true
+is_core (kinds.Day format) = true
+is_core (kinds.Moment Seconds) = true
+is_core (kinds.Moment Minutes) = true
+is_core (kinds.Moment (Spaced date time)) = false
+is_core kinds.Double = false
+is_core (kinds.Time format) = false
+is_core kinds.MomentWithZone = false
+is_core kinds.Text = true
+
+-- the datatype in a document of a profile, or `string` if such a document can't use it
+abbrev pub kind_in : Profile → Kind → Kind
+kind_in Core kind = if is_core kind then kind else kinds.Text
+kind_in W3c kind = kind
+
+-- The datatype of a column of which these are the datatypes of each text: the narrowest one, or `string` if there was no text, or the
+-- profile doesn't have it.
+abbrev pub column_kind : Profile → Bool → List Kind → Kind
+column_kind profile true (kind ∷ rest) = kind_in profile kind
+column_kind profile true [] = kinds.Text
+column_kind profile false all = kinds.Text

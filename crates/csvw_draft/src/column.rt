@@ -6,6 +6,7 @@ use crate::kind::Kind;
 use crate::marker::marker_of;
 use crate::narrowed::Narrowed;
 use csvw_datatype::Value;
+use csvw_meta::Profile;
 use csvw_text::collapse;
 use std::alloc::{AllocError, Global};
 
@@ -13,6 +14,8 @@ use std::alloc::{AllocError, Global};
 #[derive(Drop)]
 pub(crate) struct Column {
     alloc: Global,
+    /// The profile of the document.
+    profile: Profile,
     /// The text of its header cell.
     pub(crate) title: String,
     /// The datatypes that its texts have, except for the markers of missing values.
@@ -44,8 +47,9 @@ impl Column {
     ) -> Result<Column, AllocError> {
         Ok(Column {
             alloc,
+            profile: aim.profile,
             title: String::from_str(alloc, title)?,
-            narrowed: Narrowed::new(alloc, aim.profile, delimiter)?,
+            narrowed: Narrowed::new(alloc, delimiter)?,
             markers: Vec::new(alloc),
             has_empty: false,
             has_blank: false,
@@ -90,7 +94,16 @@ impl Column {
 
     /// Returns its datatype.
     pub(crate) fn kind(&self) -> Kind {
-        self.narrowed.kind()
+        self.narrowed.kind(self.profile)
+    }
+
+    /// Returns its datatype in the profile w3c, if the document isn't of that profile and has another one.
+    pub(crate) fn kind_of_w3c(&self) -> Option<Kind> {
+        let kind = self.narrowed.kind(Profile::W3c);
+        match self.profile {
+            Profile::Core if !kind.is_core() => Some(kind),
+            Profile::Core | Profile::W3c => None,
+        }
     }
 
     /// Returns the markers of missing values among its texts. In a column of texts a marker is a text as others.

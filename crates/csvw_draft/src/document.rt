@@ -61,6 +61,10 @@ enum DatatypePart {
         base: &'static str,
         format: &'static str,
     },
+    WithPattern {
+        base: &'static str,
+        format: String,
+    },
     WithNumberFormat {
         base: &'static str,
         format: NumberFormatPart,
@@ -171,35 +175,41 @@ fn has_member(part: &DialectPart) -> bool {
         || part.skip_blank_rows.is_some()
 }
 
-/// Returns a datatype, or `None` for `string`, which is the default.
-fn datatype_part(kind: Kind) -> Option<DatatypePart> {
-    match kind {
-        Kind::Text => None,
-        Kind::Truth => Some(DatatypePart::Name("boolean")),
-        Kind::Whole => Some(DatatypePart::Name("integer")),
-        Kind::Decimal => Some(DatatypePart::Name("decimal")),
-        Kind::DecimalComma => Some(DatatypePart::WithNumberFormat {
-            base: "decimal",
+/// Returns the datatype of moments in a format. Returns `AllocError` if memory runs out.
+fn moment_part(alloc: Global, format: MomentFormat) -> Result<DatatypePart, AllocError> {
+    let mut pattern = String::new(alloc);
+    format.push_pattern(&mut pattern)?;
+    Ok(DatatypePart::WithPattern {
+        base: "dateTime",
+        format: pattern,
+    })
+}
+
+/// Returns a datatype, or `None` for `string`, which is the default. Returns `AllocError` if memory runs out.
+fn datatype_part(alloc: Global, kind: Kind) -> Result<Option<DatatypePart>, AllocError> {
+    let base = kind.name();
+    Ok(Some(match kind {
+        Kind::Text => return Ok(None),
+        Kind::DecimalComma => DatatypePart::WithNumberFormat {
+            base,
             format: NumberFormatPart { decimal_char: ',' },
-        }),
-        Kind::Day(DateFormat::YearFirst) => Some(DatatypePart::Name("date")),
-        Kind::Day(format) => Some(DatatypePart::WithFormat {
-            base: "date",
+        },
+        Kind::Day(DateFormat::YearFirst)
+        | Kind::Moment(MomentFormat::Seconds)
+        | Kind::Time(TimeFormat::Seconds) => DatatypePart::Name(base),
+        Kind::Day(format) => DatatypePart::WithFormat {
+            base,
             format: format.pattern(),
-        }),
-        Kind::Moment(MomentFormat::Seconds) => Some(DatatypePart::Name("dateTime")),
-        Kind::Moment(format) => Some(DatatypePart::WithFormat {
-            base: "dateTime",
+        },
+        Kind::Moment(format) => moment_part(alloc, format)?,
+        Kind::Time(format) => DatatypePart::WithFormat {
+            base,
             format: format.pattern(),
-        }),
-        Kind::Double => Some(DatatypePart::Name("double")),
-        Kind::Time(TimeFormat::Seconds) => Some(DatatypePart::Name("time")),
-        Kind::Time(format) => Some(DatatypePart::WithFormat {
-            base: "time",
-            format: format.pattern(),
-        }),
-        Kind::MomentWithZone => Some(DatatypePart::Name("dateTime")),
-    }
+        },
+        Kind::Truth | Kind::Whole | Kind::Decimal | Kind::Double | Kind::MomentWithZone => {
+            DatatypePart::Name(base)
+        }
+    }))
 }
 
 /// Returns the texts of cells that are null, or `None` if only empty cells are, which is the default.
@@ -223,7 +233,7 @@ fn column_parts<'a>(alloc: Global, named: &'a Named) -> Result<Vec<ColumnPart<'a
         parts.push(ColumnPart {
             name,
             titles: name.map(|_| column.title.as_str()),
-            datatype: datatype_part(column.kind()),
+            datatype: datatype_part(alloc, column.kind())?,
             null: null_part(alloc, column)?,
             required: (named.table.has_row && column.is_full()).then_some(true),
         })?;

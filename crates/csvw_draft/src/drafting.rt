@@ -9,7 +9,7 @@ use crate::document::document;
 use crate::halt::Halt;
 use crate::kept::{Purpose, Room};
 use crate::keys::Named;
-use crate::note::note_limits;
+use crate::note::{note_limits, note_profile};
 use crate::reading::{Place, read_file};
 use crate::table::Table;
 use crate::urls::{last_part, urls_of};
@@ -28,8 +28,8 @@ const UNKNOWN_URL: &str = "file:///metadata.json";
 ///
 /// The document has no fault in its profile at the URL of `base`, or at `UNKNOWN_URL`. `Read` comes if a file can't be opened or read. `Rows` and
 /// `Table` come if a text has no rows, or its rows no columns, as in a run. `Meta` comes if the document would have a fault: the base
-/// is no URL, two files have one URL, or there is no file, more than 64 or too much text. Of the columns whose values weren't all kept,
-/// `err` has a line each.
+/// is no URL, two files have one URL, or there is no file, more than 64 or too much text. `err` has a line for each column whose values
+/// weren't all kept, and for each one that is a string but isn't in the profile w3c.
 pub fn draft<O: Opener, W: Write, V: Write>(
     alloc: Global,
     asked: &Draft<'_>,
@@ -154,6 +154,7 @@ fn push_tables<O: Opener, V: Write>(
         tables.push(Named::new(alloc, table))?;
         if let Some(named) = tables.last_mut() {
             note_limits(alloc, path, named.table.columns.as_slice(), err)?;
+            note_profile(alloc, path, named.table.columns.as_slice(), err)?;
             named.find(stem(path))?;
         }
     }

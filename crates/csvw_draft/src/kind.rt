@@ -1,12 +1,13 @@
 //! The datatypes that a draft gives to columns.
-ghost use Rattle.std.specs.Prelude.{◌≡◌, true, IfOk};
+ghost use Rattle.std.specs.Prelude.{◌≡◌, ◌++◌, IfOk, OnOk};
+ghost use Rattle.csvw_draft.specs.Kinds.{core_kinds, day_kinds, kinds_of, spaced_kinds, w3c_kinds};
 
+use crate::value::{date_time_as_value, day_of, double_of, moment_of, number_of, truth_of};
 use csvw_datatype::Value;
 use csvw_datatype_core::{
-    DateFormat, DateTime, FieldDigits, MomentFormat, NumberRules, Separator, TimeFormat, Zone,
-    read_date, read_date_time, read_moment, read_number, time_text,
+    DateFormat, FieldDigits, MomentFormat, NumberRules, Separator, TimeFormat, Zone,
+    read_date_time, time_text,
 };
-use csvw_double::canonical_double;
 use csvw_meta::Profile;
 use csvw_text::{Text, collapse};
 use std::alloc::{AllocError, Global};
@@ -57,71 +58,148 @@ pub enum Kind {
     Text,
 }
 
-/// The datatypes besides `string` that each document may use, from the narrowest on. Of the formats of dates, those with the day
-/// first come before those with the month first.
-static CORE_KINDS: [Kind; 19] = [
-    Kind::Truth,
-    Kind::Whole,
-    Kind::Decimal,
-    Kind::Day(DateFormat::YearFirst),
-    Kind::Day(DateFormat::Compact),
-    Kind::Day(DateFormat::DayFirst(FieldDigits::Two, Separator::Dash)),
-    Kind::Day(DateFormat::DayFirst(FieldDigits::Two, Separator::Slash)),
-    Kind::Day(DateFormat::DayFirst(FieldDigits::Two, Separator::Dot)),
-    Kind::Day(DateFormat::DayFirst(FieldDigits::OneOrTwo, Separator::Dash)),
-    Kind::Day(DateFormat::DayFirst(FieldDigits::OneOrTwo, Separator::Slash)),
-    Kind::Day(DateFormat::DayFirst(FieldDigits::OneOrTwo, Separator::Dot)),
-    Kind::Day(DateFormat::MonthFirst(FieldDigits::Two, Separator::Dash)),
-    Kind::Day(DateFormat::MonthFirst(FieldDigits::Two, Separator::Slash)),
-    Kind::Day(DateFormat::MonthFirst(FieldDigits::Two, Separator::Dot)),
-    Kind::Day(DateFormat::MonthFirst(FieldDigits::OneOrTwo, Separator::Dash)),
-    Kind::Day(DateFormat::MonthFirst(FieldDigits::OneOrTwo, Separator::Slash)),
-    Kind::Day(DateFormat::MonthFirst(FieldDigits::OneOrTwo, Separator::Dot)),
-    Kind::Moment(MomentFormat::Seconds),
-    Kind::Moment(MomentFormat::Minutes),
+/// The formats of dates. Those with the day first come before those with the month first.
+const DATE_FORMATS: [DateFormat; 14] = [
+    DateFormat::YearFirst,
+    DateFormat::Compact,
+    DateFormat::DayFirst(FieldDigits::Two, Separator::Dash),
+    DateFormat::DayFirst(FieldDigits::Two, Separator::Slash),
+    DateFormat::DayFirst(FieldDigits::Two, Separator::Dot),
+    DateFormat::DayFirst(FieldDigits::OneOrTwo, Separator::Dash),
+    DateFormat::DayFirst(FieldDigits::OneOrTwo, Separator::Slash),
+    DateFormat::DayFirst(FieldDigits::OneOrTwo, Separator::Dot),
+    DateFormat::MonthFirst(FieldDigits::Two, Separator::Dash),
+    DateFormat::MonthFirst(FieldDigits::Two, Separator::Slash),
+    DateFormat::MonthFirst(FieldDigits::Two, Separator::Dot),
+    DateFormat::MonthFirst(FieldDigits::OneOrTwo, Separator::Dash),
+    DateFormat::MonthFirst(FieldDigits::OneOrTwo, Separator::Slash),
+    DateFormat::MonthFirst(FieldDigits::OneOrTwo, Separator::Dot),
 ];
 
-/// The datatypes that a document of the profile w3c may use besides. Those in front of them are narrower, or have other texts.
-static W3C_KINDS: [Kind; 4] = [
-    Kind::Double,
-    Kind::Time(TimeFormat::Seconds),
-    Kind::Time(TimeFormat::Minutes),
-    Kind::MomentWithZone,
-];
+/// Adds `date` in each of some formats. Returns `AllocError` if memory runs out.
+fn push_days(kinds: &mut Vec<Kind>, formats: &[DateFormat]) -> Result<(), AllocError>
+    ensures { OnOk result (kinds.new.items ≡ kinds.old.items ++ day_kinds formats.now) }
+{
+    for format in formats {
+        kinds.push(Kind::Day(*format))?;
+    }
+    Ok(())
+}
+
+/// Adds `dateTime` with a space for each of some formats of dates. Returns `AllocError` if memory runs out.
+fn push_spaced(
+    kinds: &mut Vec<Kind>,
+    time: TimeFormat,
+    dates: &[DateFormat],
+) -> Result<(), AllocError>
+    ensures { OnOk result (kinds.new.items ≡ kinds.old.items ++ spaced_kinds time dates.now) }
+{
+    for date in dates {
+        kinds.push(Kind::Moment(MomentFormat::Spaced(*date, time)))?;
+    }
+    Ok(())
+}
+
+/// Adds the datatypes that a document of the profile w3c may use besides. Those in front of them are narrower, or have other
+/// texts. Returns `AllocError` if memory runs out.
+fn push_w3c(kinds: &mut Vec<Kind>) -> Result<(), AllocError>
+    ensures { OnOk result (kinds.new.items ≡ kinds.old.items ++ w3c_kinds) }
+{
+    kinds.push(Kind::Double)?;
+    kinds.push(Kind::Time(TimeFormat::Seconds))?;
+    kinds.push(Kind::Time(TimeFormat::Minutes))?;
+    kinds.push(Kind::MomentWithZone)?;
+    push_spaced(kinds, TimeFormat::Seconds, &DATE_FORMATS)?;
+    push_spaced(kinds, TimeFormat::Minutes, &DATE_FORMATS)
+}
+
+/// Returns the datatypes besides `string` that each document may use, from the narrowest on. Returns `AllocError` if memory runs
+/// out.
+fn core_kinds(alloc: Global) -> Result<Vec<Kind>, AllocError>
+    ensures { IfOk result (λ kinds. kinds.items ≡ core_kinds) }
+{
+    let mut kinds = Vec::new(alloc);
+    kinds.push(Kind::Truth)?;
+    kinds.push(Kind::Whole)?;
+    kinds.push(Kind::Decimal)?;
+    push_days(&mut kinds, &DATE_FORMATS)?;
+    kinds.push(Kind::Moment(MomentFormat::Seconds))?;
+    kinds.push(Kind::Moment(MomentFormat::Minutes))?;
+    Ok(kinds)
+}
 
 /// Returns the datatypes besides `string` that are looked for, from the narrowest on. Decimals may have a comma if `;` is the
 /// delimiter: where the comma is the decimal character, spreadsheets write `;` between fields. Returns `AllocError` if memory
 /// runs out.
-pub(crate) fn kinds_of(
-    alloc: Global,
-    profile: Profile,
-    delimiter: char,
-) -> Result<Vec<Kind>, AllocError> {
-    let mut kinds = Vec::from_slice(alloc, &CORE_KINDS)?;
+pub(crate) fn kinds_of(alloc: Global, delimiter: char) -> Result<Vec<Kind>, AllocError>
+    ensures { IfOk result (λ kinds. kinds.items ≡ kinds_of delimiter) }
+{
+    let mut kinds = core_kinds(alloc)?;
     if delimiter == ';' {
         kinds.push(Kind::DecimalComma)?;
     }
-    if profile == Profile::W3c {
-        kinds.extend_from_slice(&W3C_KINDS)?;
-    }
+    push_w3c(&mut kinds)?;
     Ok(kinds)
 }
 
 impl Kind {
-    ghost use Rattle.csvw_draft.specs.Kinds.{Reads};
+    ghost use Rattle.csvw_draft.specs.Kinds.{is_core, kind_in, reads};
+
+    /// Returns the name of the datatype.
+    pub(crate) fn name(self) -> &'static str {
+        match self {
+            Kind::Text => "string",
+            Kind::Truth => "boolean",
+            Kind::Whole => "integer",
+            Kind::Decimal | Kind::DecimalComma => "decimal",
+            Kind::Day(_) => "date",
+            Kind::Moment(_) | Kind::MomentWithZone => "dateTime",
+            Kind::Double => "double",
+            Kind::Time(_) => "time",
+        }
+    }
+
+    /// Returns whether each document may use the datatype.
+    pub(crate) fn is_core(self) -> bool
+        ensures { result ≡ is_core self }
+    {
+        match self {
+            Kind::Double
+            | Kind::Time(_)
+            | Kind::MomentWithZone
+            | Kind::Moment(MomentFormat::Spaced(..)) => false,
+            Kind::Truth
+            | Kind::Whole
+            | Kind::Decimal
+            | Kind::DecimalComma
+            | Kind::Day(_)
+            | Kind::Moment(MomentFormat::Seconds | MomentFormat::Minutes)
+            | Kind::Text => true,
+        }
+    }
+
+    /// Returns the datatype in a document of a profile: `string` if such a document can't use it.
+    pub(crate) fn in_profile(self, profile: Profile) -> Kind
+        ensures { result ≡ kind_in profile self }
+    {
+        match profile {
+            Profile::Core if !self.is_core() => Kind::Text,
+            Profile::Core | Profile::W3c => self,
+        }
+    }
 
     /// Returns whether a text, whose white space is collapsed, is a value of the datatype. Returns `AllocError` if memory runs out.
     pub(crate) fn reads(self, alloc: Global, text: &str) -> Result<bool, AllocError>
-        ensures { IfOk result (λ reads. reads ≡ true → Reads self text.now) }
+        ensures { IfOk result (λ is_read. is_read ≡ reads self text.now) }
     {
         Ok(match self {
             Kind::Truth => text == "true" || text == "false",
-            Kind::Whole => read_number(&WHOLE, text).is_ok(),
-            Kind::Decimal => read_number(&DECIMAL, text).is_ok(),
-            Kind::DecimalComma => read_number(&DECIMAL_COMMA, text).is_ok(),
-            Kind::Day(format) => read_date(format, text).is_some(),
-            Kind::Moment(format) => read_moment(format, text).is_some(),
-            Kind::Double => canonical_double(alloc, text)?.is_ok(),
+            Kind::Whole => number_of(&WHOLE, text).is_some(),
+            Kind::Decimal => number_of(&DECIMAL, text).is_some(),
+            Kind::DecimalComma => number_of(&DECIMAL_COMMA, text).is_some(),
+            Kind::Day(format) => day_of(format, text).is_some(),
+            Kind::Moment(format) => moment_of(format, text).is_some(),
+            Kind::Double => double_of(alloc, text)?.is_some(),
             Kind::Time(format) => time_text(alloc, format, text)?.is_some(),
             Kind::MomentWithZone => read_date_time(alloc, Zone::Optional, text)?.is_some(),
             Kind::Text => true,
@@ -142,34 +220,17 @@ impl Kind {
     fn read(self, alloc: Global, text: &str) -> Result<Option<Value>, AllocError> {
         Ok(match self {
             Kind::Truth => truth_of(text).map(Value::Truth),
-            Kind::Whole => read_number(&WHOLE, text).ok().map(Value::Number),
-            Kind::Decimal => read_number(&DECIMAL, text).ok().map(Value::Number),
-            Kind::DecimalComma => read_number(&DECIMAL_COMMA, text).ok().map(Value::Number),
-            Kind::Day(format) => read_date(format, text).map(Value::Day),
-            Kind::Moment(format) => read_moment(format, text).map(Value::Moment),
-            Kind::Double => canonical_double(alloc, text)?.ok().map(Value::Text),
+            Kind::Whole => number_of(&WHOLE, text).map(Value::Number),
+            Kind::Decimal => number_of(&DECIMAL, text).map(Value::Number),
+            Kind::DecimalComma => number_of(&DECIMAL_COMMA, text).map(Value::Number),
+            Kind::Day(format) => day_of(format, text).map(Value::Day),
+            Kind::Moment(format) => moment_of(format, text).map(Value::Moment),
+            Kind::Double => double_of(alloc, text)?.map(Value::Text),
             Kind::Time(format) => time_text(alloc, format, text)?.map(Value::Text),
             Kind::MomentWithZone => {
-                read_date_time(alloc, Zone::Optional, text)?.map(value_of_date_time)
+                read_date_time(alloc, Zone::Optional, text)?.map(date_time_as_value)
             }
             Kind::Text => None,
         })
-    }
-}
-
-/// Returns the value of a moment that may have a zone and parts of a second.
-fn value_of_date_time(moment: DateTime) -> Value {
-    match moment {
-        DateTime::Second(second) => Value::Moment(second),
-        DateTime::Written(text) => Value::Text(text),
-    }
-}
-
-/// Returns the truth that a text writes, or `None` if it is neither `true` nor `false`.
-fn truth_of(text: &str) -> Option<bool> {
-    match text {
-        "true" => Some(true),
-        "false" => Some(false),
-        _ => None,
     }
 }

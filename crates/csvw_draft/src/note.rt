@@ -1,4 +1,4 @@
-//! The lines that say what a draft left off.
+//! The lines that say what a draft left off, and what the profile w3c has for a column.
 
 use crate::column::Column;
 use crate::urls::last_part;
@@ -30,8 +30,8 @@ struct Line<'a> {
     title: &'a str,
     /// The number of the column, from 1.
     number: &'a str,
-    /// What was left off.
-    reason: &'a str,
+    /// What is said of it.
+    parts: &'a [&'a str],
 }
 
 /// Sends a line.
@@ -40,8 +40,7 @@ fn send_line<V: Write>(err: &mut Counted<V>, line: Line<'_>) -> Result<(), LineC
     push_parts(err, &mut room, &["csvw: "])?;
     push_shown(err, &mut room, last_part(line.path))?;
     push_column(err, &mut room, line.title, line.number)?;
-    let end = [": ", line.reason, ", so no key is looked for\n"];
-    push_parts(err, &mut room, &end)?;
+    push_parts(err, &mut room, line.parts)?;
     match write_out(err, room.as_slice()) {
         Ok(()) => Ok(()),
         Err(_) => Err(LineCut),
@@ -62,7 +61,30 @@ pub(crate) fn note_limits<V: Write>(
                 path,
                 title: column.title.as_str(),
                 number: number.as_str(),
-                reason: limit.text(),
+                parts: &[": ", limit.text(), ", so no key is looked for\n"],
+            };
+            let _ = send_line(err, line);
+        }
+    }
+    Ok(())
+}
+
+/// Says for which columns of a table the profile w3c has another datatype, if the document isn't of that profile. It goes on if a line
+/// can't be sent.
+pub(crate) fn note_profile<V: Write>(
+    alloc: Global,
+    path: &str,
+    columns: &[Column],
+    err: &mut Counted<V>,
+) -> Result<(), AllocError> {
+    for (i, column) in columns.iter().enumerate() {
+        if let Some(kind) = column.kind_of_w3c() {
+            let number = i.saturating_add(1).to_string(alloc)?;
+            let line = Line {
+                path,
+                title: column.title.as_str(),
+                number: number.as_str(),
+                parts: &[": a string, and a ", kind.name(), " with `--profile w3c`\n"],
             };
             let _ = send_line(err, line);
         }

@@ -48,7 +48,7 @@ fn push_format(text: &mut String, format: &Format) -> Result<(), AllocError> {
         }
         Format::Moment(format) => {
             text.push_str(", format ")?;
-            text.push_str(format.pattern())
+            format.push_pattern(text)
         }
         Format::Time(format) => {
             text.push_str(", format ")?;

@@ -4,7 +4,7 @@ ghost use Rattle.csvw_datatype.specs.Lexical.{IsWritable};
 
 use crate::property::{Property, given, length, text};
 use crate::value::{Shown, character};
-use csvw_datatype::{Datatype, Format, NumberFormat, TruthFormat, Value as Bound};
+use csvw_datatype::{Datatype, Format, MomentFormat, NumberFormat, TruthFormat, Value as Bound};
 use serde_json::{Value, json};
 use std::alloc::{AllocError, Global};
 
@@ -71,13 +71,20 @@ fn truth_format(alloc: Global, format: &TruthFormat) -> Result<Value, AllocError
     Ok(Value::String(texts.join(alloc, "|")?))
 }
 
+/// Returns the pattern of moments.
+fn moment_pattern(alloc: Global, format: MomentFormat) -> Result<Value, AllocError> {
+    let mut pattern = String::new(alloc);
+    format.push_pattern(&mut pattern)?;
+    Ok(Value::String(pattern))
+}
+
 /// Returns the value of `format`.
 pub(crate) fn format_value(alloc: Global, format: &Format) -> Result<Value, AllocError> {
     match format {
         Format::Truth(truth) => truth_format(alloc, truth),
         Format::Number(number) => number_format(alloc, number),
         Format::Day(day) => Value::try_from_str(alloc, day.pattern()),
-        Format::Moment(moment) => Value::try_from_str(alloc, moment.pattern()),
+        Format::Moment(moment) => moment_pattern(alloc, *moment),
         Format::Time(time) => Value::try_from_str(alloc, time.pattern()),
         Format::Expression(expression) => Value::try_from_str(alloc, expression.as_str()),
     }

@@ -6,6 +6,7 @@
 pub enum Profile {
     /// The features that each document may use.
     Core,
-    /// Those, and the datatypes `any`, `anyAtomicType`, `token`, `xml`, `html` and `json` (section 5.11.1).
+    /// Those, and more datatypes and formats (sections 5.11.1 and 5.11.2), such as `double`, `time`, a regular expression as the
+    /// format of texts, and patterns of numbers.
     W3c,
 }

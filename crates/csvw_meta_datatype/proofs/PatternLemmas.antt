@@ -1,16 +1,18 @@
 -- The format of a pattern, by the other form of `of`.
-use Rattle.std.proofs.Common.{◌≡◌, ◌≢◌, MatchOption, ℕ, List, [], ◌∷◌, Option, Some, None, Bool, true, false, refl, sym, bytes_eq}
+use Rattle.std.proofs.Common.{◌≡◌, ◌≢◌, MatchOption, ℕ, List, [], ◌∷◌, Option, Some, None, Bool, true, false, refl, sym, ap, ◌∙◌, ◌++◌, ◌==◌, ◌||◌, bytes_eq}
+use Rattle.std.specs.List.{list_any}
 use Rattle.std.proofs.lemmas.Slice.Eq.{bytes_eq-Decides}
 use Rattle.csvw_datatype_core.specs.declared.date.Separator.TheVariants.{Dash, Slash, Dot}
 use Rattle.csvw_datatype_core.specs.declared.date.FieldDigits.TheVariants.{Two, OneOrTwo}
 use Rattle.csvw_datatype_core.specs.declared.date.DateFormat.{DateFormat}
 use Rattle.csvw_datatype_core.specs.declared.date.DateFormat.TheVariants.{YearFirst, Compact, DayFirst, MonthFirst}
 use Rattle.csvw_datatype_core.specs.declared.moment.MomentFormat.{MomentFormat}
-use Rattle.csvw_datatype_core.specs.declared.moment.MomentFormat.TheVariants.{Seconds, Minutes}
+use Rattle.csvw_datatype_core.specs.declared.moment.MomentFormat.TheVariants.{Seconds, Minutes, Spaced}
 use Rattle.csvw_datatype_core.specs.declared.time.TimeFormat.{TimeFormat}
 use Rattle.csvw_datatype_core.specs.declared.time.TimeFormat.TheVariants as times
 use Rattle.csvw_datatype_core.specs.DatePatterns.{date_pattern, moment_pattern}
 use Rattle.csvw_datatype_core.specs.Times.{time_pattern}
+use Rattle.csvw_meta_core.specs.declared.profile.Profile.TheVariants.{Core, W3c}
 use Rattle.csvw_meta_datatype.specs.Patterns.{date_formats, moment_formats, time_formats, patterned_in, date_format_of, moment_format_of, time_format_of}
 
 unequal : (b : Bool) → (b ≡ true → ⊥) → b ≡ false
@@ -40,9 +42,65 @@ one_date text (MonthFirst OneOrTwo Dash) e = rw e refl
 one_date text (MonthFirst OneOrTwo Slash) e = rw e refl
 one_date text (MonthFirst OneOrTwo Dot) e = rw e refl
 
-one_moment : (text : List ℕ) (f : MomentFormat) → text ≡ moment_pattern f → moment_format_of text ≡ Some f
+one_moment : (text : List ℕ) (f : MomentFormat) → text ≡ moment_pattern f → moment_format_of W3c text ≡ Some f
 one_moment text Seconds e = rw e refl
 one_moment text Minutes e = rw e refl
+one_moment text (Spaced YearFirst times.Seconds) e = rw e refl
+one_moment text (Spaced YearFirst times.CompactSeconds) e = rw e refl
+one_moment text (Spaced YearFirst times.Minutes) e = rw e refl
+one_moment text (Spaced YearFirst times.CompactMinutes) e = rw e refl
+one_moment text (Spaced Compact times.Seconds) e = rw e refl
+one_moment text (Spaced Compact times.CompactSeconds) e = rw e refl
+one_moment text (Spaced Compact times.Minutes) e = rw e refl
+one_moment text (Spaced Compact times.CompactMinutes) e = rw e refl
+one_moment text (Spaced (DayFirst Two Dash) times.Seconds) e = rw e refl
+one_moment text (Spaced (DayFirst Two Dash) times.CompactSeconds) e = rw e refl
+one_moment text (Spaced (DayFirst Two Dash) times.Minutes) e = rw e refl
+one_moment text (Spaced (DayFirst Two Dash) times.CompactMinutes) e = rw e refl
+one_moment text (Spaced (DayFirst Two Slash) times.Seconds) e = rw e refl
+one_moment text (Spaced (DayFirst Two Slash) times.CompactSeconds) e = rw e refl
+one_moment text (Spaced (DayFirst Two Slash) times.Minutes) e = rw e refl
+one_moment text (Spaced (DayFirst Two Slash) times.CompactMinutes) e = rw e refl
+one_moment text (Spaced (DayFirst Two Dot) times.Seconds) e = rw e refl
+one_moment text (Spaced (DayFirst Two Dot) times.CompactSeconds) e = rw e refl
+one_moment text (Spaced (DayFirst Two Dot) times.Minutes) e = rw e refl
+one_moment text (Spaced (DayFirst Two Dot) times.CompactMinutes) e = rw e refl
+one_moment text (Spaced (DayFirst OneOrTwo Dash) times.Seconds) e = rw e refl
+one_moment text (Spaced (DayFirst OneOrTwo Dash) times.CompactSeconds) e = rw e refl
+one_moment text (Spaced (DayFirst OneOrTwo Dash) times.Minutes) e = rw e refl
+one_moment text (Spaced (DayFirst OneOrTwo Dash) times.CompactMinutes) e = rw e refl
+one_moment text (Spaced (DayFirst OneOrTwo Slash) times.Seconds) e = rw e refl
+one_moment text (Spaced (DayFirst OneOrTwo Slash) times.CompactSeconds) e = rw e refl
+one_moment text (Spaced (DayFirst OneOrTwo Slash) times.Minutes) e = rw e refl
+one_moment text (Spaced (DayFirst OneOrTwo Slash) times.CompactMinutes) e = rw e refl
+one_moment text (Spaced (DayFirst OneOrTwo Dot) times.Seconds) e = rw e refl
+one_moment text (Spaced (DayFirst OneOrTwo Dot) times.CompactSeconds) e = rw e refl
+one_moment text (Spaced (DayFirst OneOrTwo Dot) times.Minutes) e = rw e refl
+one_moment text (Spaced (DayFirst OneOrTwo Dot) times.CompactMinutes) e = rw e refl
+one_moment text (Spaced (MonthFirst Two Dash) times.Seconds) e = rw e refl
+one_moment text (Spaced (MonthFirst Two Dash) times.CompactSeconds) e = rw e refl
+one_moment text (Spaced (MonthFirst Two Dash) times.Minutes) e = rw e refl
+one_moment text (Spaced (MonthFirst Two Dash) times.CompactMinutes) e = rw e refl
+one_moment text (Spaced (MonthFirst Two Slash) times.Seconds) e = rw e refl
+one_moment text (Spaced (MonthFirst Two Slash) times.CompactSeconds) e = rw e refl
+one_moment text (Spaced (MonthFirst Two Slash) times.Minutes) e = rw e refl
+one_moment text (Spaced (MonthFirst Two Slash) times.CompactMinutes) e = rw e refl
+one_moment text (Spaced (MonthFirst Two Dot) times.Seconds) e = rw e refl
+one_moment text (Spaced (MonthFirst Two Dot) times.CompactSeconds) e = rw e refl
+one_moment text (Spaced (MonthFirst Two Dot) times.Minutes) e = rw e refl
+one_moment text (Spaced (MonthFirst Two Dot) times.CompactMinutes) e = rw e refl
+one_moment text (Spaced (MonthFirst OneOrTwo Dash) times.Seconds) e = rw e refl
+one_moment text (Spaced (MonthFirst OneOrTwo Dash) times.CompactSeconds) e = rw e refl
+one_moment text (Spaced (MonthFirst OneOrTwo Dash) times.Minutes) e = rw e refl
+one_moment text (Spaced (MonthFirst OneOrTwo Dash) times.CompactMinutes) e = rw e refl
+one_moment text (Spaced (MonthFirst OneOrTwo Slash) times.Seconds) e = rw e refl
+one_moment text (Spaced (MonthFirst OneOrTwo Slash) times.CompactSeconds) e = rw e refl
+one_moment text (Spaced (MonthFirst OneOrTwo Slash) times.Minutes) e = rw e refl
+one_moment text (Spaced (MonthFirst OneOrTwo Slash) times.CompactMinutes) e = rw e refl
+one_moment text (Spaced (MonthFirst OneOrTwo Dot) times.Seconds) e = rw e refl
+one_moment text (Spaced (MonthFirst OneOrTwo Dot) times.CompactSeconds) e = rw e refl
+one_moment text (Spaced (MonthFirst OneOrTwo Dot) times.Minutes) e = rw e refl
+one_moment text (Spaced (MonthFirst OneOrTwo Dot) times.CompactMinutes) e = rw e refl
 
 one_time : (text : List ℕ) (f : TimeFormat) → text ≡ time_pattern f → time_format_of text ≡ Some f
 one_time text times.Seconds e = rw e refl
@@ -56,11 +114,47 @@ date_as text None h = sym (none_in date_pattern text h date_formats)
 date_as text (Some f) h = sym (one_date text f h)
 
 pub moment_as : (text : List ℕ) (o : Option MomentFormat) → MatchOption o ((f : MomentFormat) → text ≢ moment_pattern f) (λ f. text ≡ moment_pattern f)
-    → o ≡ moment_format_of text
-moment_as text None h = sym (none_in moment_pattern text h moment_formats)
+    → o ≡ moment_format_of W3c text
+moment_as text None h = sym (none_in moment_pattern text h (moment_formats W3c))
 moment_as text (Some f) h = sym (one_moment text f h)
 
 pub time_as : (text : List ℕ) (o : Option TimeFormat) → MatchOption o ((f : TimeFormat) → text ≢ time_pattern f) (λ f. text ≡ time_pattern f)
     → o ≡ time_format_of text
 time_as text None h = sym (none_in time_pattern text h time_formats)
 time_as text (Some f) h = sym (one_time text f h)
+
+-- ---- in the profile core, a pattern with a space is none
+
+or_true : (a : Bool) → (a || true) ≡ true
+or_true true = refl
+or_true false = refl
+
+abbrev has_space : List ℕ → Bool
+has_space bs = list_any (λ b. b == 32) bs
+
+-- a text with a space has one, whatever is before it
+any_space : (front rest : List ℕ) → has_space (front ++ (32 ∷ rest)) ≡ true
+any_space [] rest = refl
+any_space (b ∷ bs) rest = rw (any_space bs rest) (or_true (b == 32))
+
+-- a text with a space isn't a pattern without one
+other_pattern : (text pattern front rest : List ℕ) → text ≡ front ++ (32 ∷ rest) → has_space pattern ≡ false → text ≡ pattern → ⊥
+other_pattern text pattern front rest spaced free same =
+    let e : true ≡ false = sym (any_space front rest) ∙ ap has_space (sym spaced ∙ same) ∙ free in cc
+
+pub no_core_moment : (text : List ℕ) (date : DateFormat) (time : TimeFormat) → text ≡ moment_pattern (Spaced date time) → None ≡ moment_format_of Core text
+no_core_moment text date time e =
+    let front = date_pattern date in
+    let rest = time_pattern time in
+    let a = differs text (moment_pattern Seconds) (other_pattern text (moment_pattern Seconds) front rest e refl) in
+    let b = differs text (moment_pattern Minutes) (other_pattern text (moment_pattern Minutes) front rest e refl) in
+    rw (a, b) refl
+
+pub core_seconds : (text : List ℕ) → text ≡ moment_pattern Seconds → Some Seconds ≡ moment_format_of Core text
+core_seconds text e = rw e refl
+
+pub core_minutes : (text : List ℕ) → text ≡ moment_pattern Minutes → Some Minutes ≡ moment_format_of Core text
+core_minutes text e = rw e refl
+
+pub no_core_format : (text : List ℕ) → ((f : MomentFormat) → text ≢ moment_pattern f) → None ≡ moment_format_of Core text
+no_core_format text h = sym (none_in moment_pattern text h (moment_formats Core))

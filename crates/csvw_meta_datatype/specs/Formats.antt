@@ -78,4 +78,4 @@ format profile simples.Whole place at d = number_format profile place at d
 format profile (simples.Derived w) place at d = number_format profile place at d
 format profile simples.Decimal place at d = number_format profile place at d
 format profile simples.Day place at d = under (λ f. found (formats.Day f)) (date_format at d)
-format profile simples.Moment place at d = under (λ f. found (formats.Moment f)) (moment_format at d)
+format profile simples.Moment place at d = under (λ f. found (formats.Moment f)) (moment_format profile at d)

@@ -137,7 +137,10 @@ impl Reader for FormatReader {
             }
             Simple::Truth => Format::Truth(TruthPattern.read(part)?),
             Simple::Day => Format::Day(DatePattern.read(part)?),
-            Simple::Moment => Format::Moment(MomentPattern.read(part)?),
+            Simple::Moment => Format::Moment(MomentPattern {
+                profile: self.profile,
+            }
+            .read(part)?),
         };
         Ok(FormatFound {
             format: Some(format),

@@ -137,10 +137,10 @@ date_has_one at d =
     of_kind BadProperty at d YearFirst (as_str d) (λ s. pattern_found YearFirst at (date_format_of s))
     (λ s. pattern_has_one YearFirst at (date_format_of s))
 
-pub moment_has_one : (at : List ℕ) (d : Data) → AtMostOne (moment_format at d).faults
-moment_has_one at d =
-    of_kind BadProperty at d Seconds (as_str d) (λ s. pattern_found Seconds at (moment_format_of s))
-    (λ s. pattern_has_one Seconds at (moment_format_of s))
+pub moment_has_one : (profile : Profile) (at : List ℕ) (d : Data) → AtMostOne (moment_format profile at d).faults
+moment_has_one profile at d =
+    of_kind BadProperty at d Seconds (as_str d) (λ s. pattern_found Seconds at (moment_format_of profile s))
+    (λ s. pattern_has_one Seconds at (moment_format_of profile s))
 
 pub time_has_one : (at : List ℕ) (d : Data) → AtMostOne (time_format at d).faults
 time_has_one at d =

@@ -24,7 +24,7 @@ impl OneFault for DatePattern {
 }
 
 impl OneFault for MomentPattern {
-    ghost at_most_one = { λ _. moment_has_one };
+    ghost at_most_one = { λ r. moment_has_one r.profile };
 }
 
 impl OneFault for TimePattern {
@@ -128,7 +128,7 @@ fn find_format_here(
         reader: DatePattern,
     };
     let moment = Leaf {
-        reader: MomentPattern,
+        reader: MomentPattern { profile },
     };
     match simple {
         Simple::Text | Simple::Uri => find_expression(profile, part, faults),

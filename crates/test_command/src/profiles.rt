@@ -63,6 +63,61 @@ table 1: p.csv: 3 records
 not valid
 "#;
 
+/// A table with doubles and moments with a space.
+const DRAFTED: &[File<'static>] = &[File {
+    path: "p.csv",
+    bytes: b"d,m\n1e5,31/01/2020 08:30\n",
+}];
+
+/// Its document in the profile w3c.
+const DRAFT: &[u8] = br#"{
+  "@context": "http://www.w3.org/ns/csvw",
+  "url": "p.csv",
+  "tableSchema": {
+    "columns": [
+      {
+        "name": "d",
+        "titles": "d",
+        "datatype": "double",
+        "required": true
+      },
+      {
+        "name": "m",
+        "titles": "m",
+        "datatype": {
+          "base": "dateTime",
+          "format": "dd/MM/yyyy HH:mm"
+        },
+        "required": true
+      }
+    ],
+    "primaryKey": "d"
+  }
+}
+"#;
+
+/// Its document in the profile core.
+const CORE_DRAFT: &[u8] = br#"{
+  "@context": "http://www.w3.org/ns/csvw",
+  "url": "p.csv",
+  "tableSchema": {
+    "columns": [
+      {
+        "name": "d",
+        "titles": "d",
+        "required": true
+      },
+      {
+        "name": "m",
+        "titles": "m",
+        "required": true
+      }
+    ],
+    "primaryKey": "d"
+  }
+}
+"#;
+
 /// A document whose format is no regular expression.
 const NO_EXPRESSION: &[File<'static>] = &[File {
     path: "m.json",
@@ -109,7 +164,7 @@ const NO_STAMPS: &[u8] =
     the profile w3c has the datatype dateTimeStamp: write `--profile w3c`
 ";
 
-static PROFILES: [Case; 16] = [
+static PROFILES: [Case; 18] = [
     Case {
         what: "w3c, validated",
         words: &[
@@ -328,6 +383,28 @@ static PROFILES: [Case; 16] = [
             status: 3,
             out: Just(b""),
             err: Just(STOP),
+        },
+    },
+    Case {
+        what: "w3c, drafted",
+        words: &["csvw", "draft", "--profile", "w3c", "p.csv"],
+        files: DRAFTED,
+        end: End {
+            status: 0,
+            out: Just(DRAFT),
+            err: Just(b""),
+        },
+    },
+    Case {
+        what: "core, drafted",
+        words: &["csvw", "draft", "p.csv"],
+        files: DRAFTED,
+        end: End {
+            status: 0,
+            out: Just(CORE_DRAFT),
+            err: Just(
+                b"csvw: p.csv: column \"d\": a string, and a double with `--profile w3c`\ncsvw: p.csv: column \"m\": a string, and a dateTime with `--profile w3c`\n",
+            ),
         },
     },
 ];

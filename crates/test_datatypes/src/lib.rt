@@ -31,4 +31,6 @@ mod refusals;
 #[cfg(test)]
 mod roles;
 #[cfg(test)]
+mod spaced_moments;
+#[cfg(test)]
 mod tree_ops;

@@ -100,14 +100,14 @@ impl Write for Full {
     }
 }
 
-/// Returns the text of a draft, or the text of its stop.
-fn drafted(
+/// Returns what a draft of some files sends to `out`, or the text of its stop, and what it sends to `err`.
+fn sent(
     alloc: Global,
     files: &'static [File],
     base: Option<&str>,
     profile: Profile,
     reads: u64,
-) -> Option<String> {
+) -> Option<(String, String)> {
     let mut paths = Vec::new(alloc);
     for file in files {
         paths.push(file.path).ok()?;
@@ -119,19 +119,30 @@ fn drafted(
         files: paths.as_slice(),
         profile,
     };
-    match draft(
-        alloc,
-        &asked,
-        &mut Files { files, reads },
-        &mut out,
-        &mut err,
-    ) {
-        Ok(()) => {
-            let bytes: Vec<u8> = out.into_inner();
-            String::from_str(alloc, str::from_utf8(bytes.as_slice()).ok()?).ok()
-        }
-        Err(stop) => format!(in alloc; "{stop:?}").ok(),
+    let mut opener = Files { files, reads };
+    let stop = draft(alloc, &asked, &mut opener, &mut out, &mut err);
+    let notes = text_of(alloc, err.into_inner())?;
+    match stop {
+        Ok(()) => Some((text_of(alloc, out.into_inner())?, notes)),
+        Err(stop) => Some((format!(in alloc; "{stop:?}").ok()?, notes)),
     }
+}
+
+/// Returns bytes as a text, if they are one.
+fn text_of(alloc: Global, bytes: Vec<u8>) -> Option<String> {
+    String::from_str(alloc, str::from_utf8(bytes.as_slice()).ok()?).ok()
+}
+
+/// Returns the document of some files, or the text of the stop.
+fn drafted(
+    alloc: Global,
+    files: &'static [File],
+    base: Option<&str>,
+    profile: Profile,
+    reads: u64,
+) -> Option<String> {
+    let (document, _) = sent(alloc, files, base, profile, reads)?;
+    Some(document)
 }
 
 /// Returns a JSON text without white space, and with the members of objects in the order of their names.
@@ -318,8 +329,8 @@ static DOCUMENTS: [Case; 17] = [
     },
 ];
 
-/// Drafts in the profile w3c. The last three have no text that only the profile w3c has a datatype for.
-static W3C_DOCUMENTS: [Case; 9] = [
+/// Drafts in the profile w3c.
+static W3C_DOCUMENTS: [Case; 10] = [
     one!(
         "types.csv",
         "n,d,t,c,m\n1,1e5,08:30,08:30:00,2020-01-31T08:30:00Z\n2,-INF,09:15,09:15:30,2020-01-31T09:00:00.5\n",
@@ -409,16 +420,29 @@ static W3C_DOCUMENTS: [Case; 9] = [
             {"name":"m","titles":"m","datatype":{"base":"dateTime","format":"yyyy-MM-ddTHH:mm"},"required":true}],
             "primaryKey":"m"}}"#
     ),
+    // moments with a space; in the last column one text has a `T`
+    one!(
+        "spaced.csv",
+        "a,b,c,d,e\n31/01/2020 08:30,2020-01-31 08:30:15,1.2.2020 00:00,1/31/2020 08:30,2020-01-31 08:30\n05/02/2020 23:59,2020-02-05 23:59:00,13.2.2020 09:05,2/5/2020 09:05,2020-01-31T08:30\n",
+        r#"{"@context":"http://www.w3.org/ns/csvw","url":"spaced.csv","tableSchema":{"columns":[
+            {"name":"a","titles":"a","datatype":{"base":"dateTime","format":"dd/MM/yyyy HH:mm"},"required":true},
+            {"name":"b","titles":"b","datatype":{"base":"dateTime","format":"yyyy-MM-dd HH:mm:ss"},"required":true},
+            {"name":"c","titles":"c","datatype":{"base":"dateTime","format":"d.M.yyyy HH:mm"},"required":true},
+            {"name":"d","titles":"d","datatype":{"base":"dateTime","format":"M/d/yyyy HH:mm"},"required":true},
+            {"name":"e","titles":"e","required":true}],
+            "primaryKey":"a"}}"#
+    ),
 ];
 
 /// Drafts in the profile core of texts that only the profile w3c has a datatype for.
 static CORE_DOCUMENTS: [Case; 1] = [one!(
     "strings.csv",
-    "d,t,m\n1e5,08:30,2020-01-31T08:30:00Z\n",
+    "d,t,m,s\n1e5,08:30,2020-01-31T08:30:00Z,31/01/2020 08:30\n",
     r#"{"@context":"http://www.w3.org/ns/csvw","url":"strings.csv","tableSchema":{"columns":[
         {"name":"d","titles":"d","required":true},
         {"name":"t","titles":"t","required":true},
-        {"name":"m","titles":"m","required":true}],
+        {"name":"m","titles":"m","required":true},
+        {"name":"s","titles":"s","required":true}],
         "primaryKey":"d"}}"#
 )];
 
@@ -437,6 +461,32 @@ fn each_has_its_document(rt: &impl Abort, alloc: Global, cases: &[Case], profile
 fn tables_have_their_documents(rt: HostRuntime) {
     each_has_its_document(&rt, rt.alloc(), &DOCUMENTS, Profile::Core);
     each_has_its_document(&rt, rt.alloc(), &CORE_DOCUMENTS, Profile::Core);
+}
+
+/// The lines on columns that have another datatype in the profile w3c.
+const NOTES: &str = "\
+csvw: strings.csv: column \"d\": a string, and a double with `--profile w3c`
+csvw: strings.csv: column \"t\": a string, and a time with `--profile w3c`
+csvw: strings.csv: column \"m\": a string, and a dateTime with `--profile w3c`
+csvw: strings.csv: column \"s\": a string, and a dateTime with `--profile w3c`
+";
+
+/// Fails if a draft of a case in a profile doesn't send these lines to `err`.
+fn notes(rt: &impl Abort, alloc: Global, case: &Case, profile: Profile, want: &str) {
+    let (_, notes) = sent(alloc, case.files, None, profile, u64::MAX).expect(rt, "a draft");
+    assert_eq!(rt; notes.as_str(), want);
+}
+
+#[test]
+fn datatypes_of_the_other_profile_are_noted(rt: HostRuntime) {
+    let alloc = rt.alloc();
+    for case in &CORE_DOCUMENTS {
+        notes(&rt, alloc, case, Profile::Core, NOTES);
+        notes(&rt, alloc, case, Profile::W3c, "");
+    }
+    for case in &DOCUMENTS {
+        notes(&rt, alloc, case, Profile::Core, "");
+    }
 }
 
 #[test]

@@ -5,6 +5,7 @@ use crate::kept_texts::{NAMED, PARTS, TIMES};
 use crate::limits::{BREAKS, ONES, SOUND};
 use crate::patterns::PATTERNED;
 use crate::readings::{BOUNDS, DATE_FORMATS, DATES, FULL, NO_FORMATS, NUMBERS, TEXTS};
+use crate::spaced_moments::UNREAD;
 use csvw_datatype::{
     Broken, Datatype, DateFormat, DatePart, Facets, Floating, Format, MomentFormat, NumberFormat,
     RegularExpression, Simple, TextType, TimeFormat, TruthFormat, Value, Width, Zone,
@@ -315,6 +316,7 @@ fn all_hold(rt: &impl Abort, alloc: Global) -> Result<(), AllocError> {
         &NAMED,
         &DATE_TIMES,
         &STAMPS,
+        &UNREAD,
     ] {
         rows_hold(rt, alloc, rows)?;
     }

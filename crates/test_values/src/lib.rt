@@ -36,6 +36,8 @@ mod patterns;
 #[cfg(test)]
 mod readings;
 #[cfg(test)]
+mod spaced_moments;
+#[cfg(test)]
 mod tables;
 #[cfg(test)]
 mod telling;

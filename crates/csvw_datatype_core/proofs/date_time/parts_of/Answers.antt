@@ -1,7 +1,7 @@
 -- The bytes up to the first 19 are the date and the time of day.
 use mir.Syntax.{w64}
 use Rattle.std.proofs.lemmas.Int.{to_z-of_z}
-use Rattle.std.proofs.Common.{rules, FitsSigned, ◌≡◌, ℕ, ℤ, ap, ◌∙◌, Some, drop, take}
+use Rattle.std.proofs.Common.{rules, FitsSigned, ℤ, ap, ◌∙◌, Some, drop, take}
 use Rattle.csvw_datatype_core.proofs.DateTimeLemmas.{back_is, front_is, parts_found}
 use Rattle.csvw_datatype_core.proofs.date_time.parts_of.Goals as goal
 

@@ -1,5 +1,5 @@
 use Rattle.std.proofs.Common.{sym, subst, Option, ℕ, MatchOption}
-use Rattle.csvw_datatype_core.specs.Moments.{ReadsTime}
+use Rattle.csvw_datatype_core.specs.JoinedMoments.{ReadsTime}
 use Rattle.csvw_datatype_core.proofs.TimeLemmas.{no_time_fields, time_answer}
 use Rattle.csvw_datatype_core.proofs.moment.read_time.Goals as goal
 

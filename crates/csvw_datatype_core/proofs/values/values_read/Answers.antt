@@ -1,3 +1,4 @@
+use Rattle.csvw_datatype_core.proofs.MomentLemmas.{moment_given}
 use Rattle.csvw_datatype_core.proofs.ValueLemmas as law
 use Rattle.csvw_datatype_core.proofs.values.values_read.Goals as goal
 
@@ -8,4 +9,4 @@ pub returns-clause-day : goal.returns-clause-day
 returns-clause-day c = law.date_given
 
 pub returns-clause-moment : goal.returns-clause-moment
-returns-clause-moment c = law.moment_given
+returns-clause-moment c = moment_given
