@@ -1,6 +1,7 @@
 //! What to write in place of a datatype that isn't supported (Metadata Vocabulary for Tabular Data, section 5.11.1).
 
-use crate::format_hint::push_format_hint;
+use crate::bound_hint::bound_hint;
+use crate::format_hint::format_hint;
 use crate::near::near_name;
 use csvw_datatype::Simple;
 use csvw_meta::{MetaCode, MetaFault};
@@ -22,7 +23,7 @@ const OTHERS: [(&str, &str); 9] = [
 ];
 
 /// The datatypes that there are.
-const NAMES: [&str; 38] = [
+const NAMES: [&str; 39] = [
     "string",
     "anyURI",
     "boolean",
@@ -49,6 +50,7 @@ const NAMES: [&str; 38] = [
     "token",
     "xml",
     "html",
+    "json",
     "number",
     "double",
     "float",
@@ -110,7 +112,16 @@ fn is_of_datatype(pointer: &str) -> bool {
     pointer.ends_with("/datatype") || pointer.ends_with("/datatype/base")
 }
 
-/// Adds what to write in place of a datatype or a format that is refused, if the fault is at one.
+/// Returns the name of the datatype at a pointer, if it isn't supported.
+fn name_at<'a>(document: &'a Value, code: MetaCode, pointer: &str) -> Option<&'a str> {
+    if code == MetaCode::NotSupported && is_of_datatype(pointer) {
+        document.pointer(pointer)?.as_str()
+    } else {
+        None
+    }
+}
+
+/// Adds what to write in place of a datatype, a format or a bound that is refused, if the fault is at one.
 pub(crate) fn push_datatype_hint(
     hints: &mut String,
     alloc: Global,
@@ -118,17 +129,17 @@ pub(crate) fn push_datatype_hint(
     fault: &MetaFault,
 ) -> Result<(), AllocError> {
     let pointer = fault.pointer.as_str();
-    if fault.code == MetaCode::BadDatatype || !is_of_datatype(pointer) {
-        return push_format_hint(hints, alloc, bytes, fault.code, pointer);
-    }
     let Ok(document) = Value::from_slice(alloc, bytes) else {
         return Ok(());
     };
-    let Some(value) = document.pointer(pointer) else {
-        return Ok(());
-    };
-    match value.as_str() {
-        Some(name) => push_instead(hints, name),
+    if let Some(name) = name_at(&document, fault.code, pointer) {
+        return push_instead(hints, name);
+    }
+    if let Some(hint) = format_hint(&document, fault.code, pointer) {
+        return hints.push_str(hint);
+    }
+    match bound_hint(&document, fault.code, pointer) {
+        Some(hint) => hints.push_str(hint),
         None => Ok(()),
     }
 }

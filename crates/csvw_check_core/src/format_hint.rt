@@ -4,7 +4,6 @@
 use csvw_datatype::{Simple, TextType};
 use csvw_meta::MetaCode;
 use serde_json::Value;
-use std::alloc::{AllocError, Global};
 
 /// What patterns need.
 const PATTERN_NEEDED: &str =
@@ -20,7 +19,8 @@ const EXPRESSION_NEEDED: &str =
 
 /// How a regular expression is written.
 const EXPRESSION_WRITTEN: &str =
-    "    the text is no regular expression: its syntax is that of the Rust crate regex, as `[A-Z]{2}[0-9]+`, without `\\i`, `\\c`, look-around and back-references\n";
+    "    the text is no regular expression: its syntax is that of the Rust crate regex, as `[A-Z]{2}[0-9]+`, \
+     without `\\i`, `\\c`, look-around and back-references\n";
 
 /// The patterns of dates.
 const DATE_PATTERNS: &str =
@@ -28,7 +28,8 @@ const DATE_PATTERNS: &str =
 
 /// The patterns of moments.
 const MOMENT_PATTERNS: &str =
-    "    the format of a dateTime is yyyy-MM-ddTHH:mm:ss or yyyy-MM-ddTHH:mm\n";
+    "    the format of a dateTime is yyyy-MM-ddTHH:mm:ss or yyyy-MM-ddTHH:mm; with `--profile w3c` also a date, a space and a time, \
+     as dd/MM/yyyy HH:mm\n";
 
 /// The patterns of times of day.
 const TIME_PATTERNS: &str = "    the format of a time is HH:mm:ss, HHmmss, HH:mm or HHmm\n";
@@ -91,19 +92,7 @@ fn hint_of(described: Described, code: MetaCode) -> &'static str {
     }
 }
 
-/// Adds what a pattern or a regular expression needs, or how it is written, if the pointer is that of one.
-pub(crate) fn push_format_hint(
-    hints: &mut String,
-    alloc: Global,
-    bytes: &[u8],
-    code: MetaCode,
-    pointer: &str,
-) -> Result<(), AllocError> {
-    let Ok(document) = Value::from_slice(alloc, bytes) else {
-        return Ok(());
-    };
-    match described_at(&document, pointer) {
-        Some(described) => hints.push_str(hint_of(described, code)),
-        None => Ok(()),
-    }
+/// Returns what a pattern or a regular expression needs, or how it is written, if the pointer is that of one.
+pub(crate) fn format_hint(document: &Value, code: MetaCode, pointer: &str) -> Option<&'static str> {
+    Some(hint_of(described_at(document, pointer)?, code))
 }

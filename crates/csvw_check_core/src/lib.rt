@@ -15,6 +15,7 @@
 #![tactic(auto)]
 
 mod asked;
+mod bound_hint;
 mod datatype_hint;
 mod document;
 mod expected;

@@ -125,7 +125,7 @@ static NO_JSON: [Refusal; 12] = [
 ];
 
 /// Documents that are refused, each with what `csvw check` says and what helps.
-static HELPED: [Refusal; 11] = [
+static HELPED: [Refusal; 17] = [
     Refusal {
         meta: b"{\"@context\":\"http://www.w3.org/ns/csvw\",\"url\":\"p.csv\",\"tableSchema\":{\"columns\":[{\"name\":\"a\",\"datatype\":{\"base\":\"decimal\",\n\"format\":\"#,##0.00\"}}]}}",
         line: b"m.json:2:1: /tableSchema/columns/0/datatype/format: NotSupported: this part of the vocabulary is not supported: leave it out\n    a pattern of numbers needs the profile w3c (`--profile w3c`), and has `0`, `#`, `+`, `%`, `\xe2\x80\xb0`, the decimal and the group character alone\n",
@@ -144,7 +144,7 @@ static HELPED: [Refusal; 11] = [
     },
     Refusal {
         meta: b"{\"@context\":\"http://www.w3.org/ns/csvw\",\"url\":\"p.csv\",\"tableSchema\":{\"columns\":[{\"name\":\"a\",\"datatype\":{\"base\":\"dateTime\",\n\"format\":\"yyyy-MM-dd HH:mm\"}}]}}",
-        line: b"m.json:2:1: /tableSchema/columns/0/datatype/format: NotSupported: this part of the vocabulary is not supported: leave it out\n    the format of a dateTime is yyyy-MM-ddTHH:mm:ss or yyyy-MM-ddTHH:mm\n",
+        line: b"m.json:2:1: /tableSchema/columns/0/datatype/format: NotSupported: this part of the vocabulary is not supported: leave it out\n    the format of a dateTime is yyyy-MM-ddTHH:mm:ss or yyyy-MM-ddTHH:mm; with `--profile w3c` also a date, a space and a time, as dd/MM/yyyy HH:mm\n",
     },
     Refusal {
         meta: b"{\"@context\":\"http://www.w3.org/ns/csvw\",\"tableSchema\":{}}",
@@ -169,6 +169,30 @@ static HELPED: [Refusal; 11] = [
     Refusal {
         meta: b"{\"@context\":\"http://www.w3.org/ns/csvw\",\"url\":\"p.csv\",\"tableSchema\":{\"columns\":[{\"name\":\"a\",\n\"datatype\":\"quantity\"}]}}",
         line: b"m.json:2:1: /tableSchema/columns/0/datatype: NotSupported: this part of the vocabulary is not supported: leave it out\n    quantity is no datatype of the standard\n",
+    },
+    Refusal {
+        meta: b"{\"@context\":\"http://www.w3.org/ns/csvw\",\"url\":\"p.csv\",\"tableSchema\":{\"columns\":[{\"name\":\"a\",\"datatype\":{\"base\":\"date\",\"format\":\"dd.MM.yyyy\",\n\"minimum\":\"01.01.2024\"}}]}}",
+        line: b"m.json:2:1: /tableSchema/columns/0/datatype/minimum: BadDatatype: the datatype cannot have this format or these facets\n    a bound is a date as yyyy-MM-dd, whatever the format is\n",
+    },
+    Refusal {
+        meta: b"{\"@context\":\"http://www.w3.org/ns/csvw\",\"url\":\"p.csv\",\"tableSchema\":{\"columns\":[{\"name\":\"a\",\"datatype\":{\"base\":\"decimal\",\n\"maximum\":0.5}}]}}",
+        line: b"m.json:2:1: /tableSchema/columns/0/datatype/maximum: NotSupported: this part of the vocabulary is not supported: leave it out\n    a number that isn't whole is written as a text, as \"0.5\"\n",
+    },
+    Refusal {
+        meta: b"{\"@context\":\"http://www.w3.org/ns/csvw\",\"url\":\"p.csv\",\"tableSchema\":{\"columns\":[{\"name\":\"a\",\"datatype\":{\"base\":\"decimal\",\"format\":{\"decimalChar\":\",\"},\n\"minInclusive\":\"1,5\"}}]}}",
+        line: b"m.json:2:1: /tableSchema/columns/0/datatype/minInclusive: BadDatatype: the datatype cannot have this format or these facets\n    a bound is a number with `.` before the fraction and without group characters, as \"1000.5\"\n",
+    },
+    Refusal {
+        meta: b"{\"@context\":\"http://www.w3.org/ns/csvw\",\"url\":\"p.csv\",\"tableSchema\":{\"columns\":[{\"name\":\"a\",\"datatype\":{\"base\":\"integer\",\n\"maxInclusive\":\"1,000\"}}]}}",
+        line: b"m.json:2:1: /tableSchema/columns/0/datatype/maxInclusive: BadDatatype: the datatype cannot have this format or these facets\n    a bound is a value of its datatype, in digits without group characters, as \"1000\"\n",
+    },
+    Refusal {
+        meta: b"{\"@context\":\"http://www.w3.org/ns/csvw\",\"url\":\"p.csv\",\"tableSchema\":{\"columns\":[{\"name\":\"a\",\"datatype\":{\"base\":\"dateTime\",\n\"minExclusive\":\"2020-01-31T08:30:00Z\"}}]}}",
+        line: b"m.json:2:1: /tableSchema/columns/0/datatype/minExclusive: BadDatatype: the datatype cannot have this format or these facets\n    a bound is a moment as yyyy-MM-ddTHH:mm:ss, without a zone, whatever the format is\n",
+    },
+    Refusal {
+        meta: b"{\"@context\":\"http://www.w3.org/ns/csvw\",\"url\":\"p.csv\",\"tableSchema\":{\"columns\":[{\"name\":\"a\",\"datatype\":{\n\"maxExclusive\":\"b\"}}]}}",
+        line: b"m.json:2:1: /tableSchema/columns/0/datatype/maxExclusive: BadDatatype: the datatype cannot have this format or these facets\n    the values of this datatype have no order: leave the bound out\n",
     },
 ];
 
