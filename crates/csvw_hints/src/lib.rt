@@ -1,6 +1,7 @@
 //! What helps a person with a fault or a stop: the rule that it breaks, where it is, and what was meant.
 //!
-//! - `push_rule` writes the rule of a column or of a key, with its values.
+//! - `push_rule` writes the rule of a column or of a key, with its values. `push_other_format` writes the format in which the text
+//!   of a cell is a value, if it is none of its column's datatype.
 //! - `place_of` returns the line and the column of a value of a document, by its JSON Pointer.
 //! - `Scan` walks through the bytes of a document, and `Lines` counts its lines.
 //! - `push_disguise` and `dialect_hint` say what a file is by its first bytes, if it can't be read as the table says.
@@ -22,10 +23,14 @@ mod bound;
 mod disguise;
 mod json_place;
 mod key_rule;
+mod other_date;
+mod other_format;
+mod other_number;
 mod rule;
 mod tables;
 
 pub use disguise::{dialect_hint, push_disguise};
 pub use json_place::{Lines, Scan, line_and_column, place_of};
+pub use other_format::push_other_format;
 pub use rule::push_rule;
 pub use tables::{Group, TableAt, Tables, field_of, name_of};

@@ -2,7 +2,7 @@
 
 use crate::file_rows::{FileRows, LineCount, Piece};
 use crate::first_rows::{FirstRows, Repeat};
-use csvw_hints::{TableAt, field_of, name_of, push_rule};
+use csvw_hints::{TableAt, field_of, name_of, push_other_format, push_rule};
 use csvw_opener::{Opener, STANDARD_INPUT};
 use csvw_page::{CellShown, Color, Counts, FaultShown, Form, Halt, Page, Spot, spot_of};
 use csvw_rows::{RawRow, Rows};
@@ -58,7 +58,7 @@ pub struct Walker {
     rule: String,
     /// The column and the code of these faults, if the rule of a fault was made.
     spot: Option<Spot>,
-    /// What is told below the last fault: its rule, and what is told of this fault alone.
+    /// What is told below the last fault: its rule, and what is told of this fault or its text alone.
     below: String,
     /// The rows of the table that repeat its primary key, and the first rows with their keys.
     firsts: FirstRows,
@@ -168,8 +168,9 @@ impl Walker {
         let column = fault.place.column;
         let cell = cell_of(table, column, at);
         self.below.clear();
-        if cell.is_some() {
+        if let Some(cell) = &cell {
             self.tell_rule(table, fault)?;
+            push_other_format(&mut self.below, table, fault, cell.text)?;
         } else {
             self.tell_unseen(table, fault)?;
         }

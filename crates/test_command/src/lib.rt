@@ -21,6 +21,8 @@ mod joins;
 #[cfg(test)]
 mod limits;
 #[cfg(test)]
+mod other_formats;
+#[cfg(test)]
 mod parts;
 #[cfg(test)]
 mod plain_runs;

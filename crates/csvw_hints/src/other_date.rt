@@ -1,0 +1,143 @@
+//! The formats by which a text is a date or a moment, if it is none in its column's format.
+
+use csvw_datatype_core::{
+    DateFormat, FieldDigits, MomentFormat, Separator, TimeFormat, Zone, read_date, read_date_time,
+    read_moment,
+};
+use std::alloc::{AllocError, Global};
+
+/// The formats of dates. Those with the day first come before those with the month first.
+const DATES: [DateFormat; 14] = [
+    DateFormat::YearFirst,
+    DateFormat::Compact,
+    DateFormat::DayFirst(FieldDigits::Two, Separator::Dash),
+    DateFormat::DayFirst(FieldDigits::Two, Separator::Slash),
+    DateFormat::DayFirst(FieldDigits::Two, Separator::Dot),
+    DateFormat::DayFirst(FieldDigits::OneOrTwo, Separator::Dash),
+    DateFormat::DayFirst(FieldDigits::OneOrTwo, Separator::Slash),
+    DateFormat::DayFirst(FieldDigits::OneOrTwo, Separator::Dot),
+    DateFormat::MonthFirst(FieldDigits::Two, Separator::Dash),
+    DateFormat::MonthFirst(FieldDigits::Two, Separator::Slash),
+    DateFormat::MonthFirst(FieldDigits::Two, Separator::Dot),
+    DateFormat::MonthFirst(FieldDigits::OneOrTwo, Separator::Dash),
+    DateFormat::MonthFirst(FieldDigits::OneOrTwo, Separator::Slash),
+    DateFormat::MonthFirst(FieldDigits::OneOrTwo, Separator::Dot),
+];
+
+/// The formats of times of day.
+const TIMES: [TimeFormat; 4] = [
+    TimeFormat::Seconds,
+    TimeFormat::CompactSeconds,
+    TimeFormat::Minutes,
+    TimeFormat::CompactMinutes,
+];
+
+/// Returns the same format with the month first, if a format has the day first.
+fn month_first(format: DateFormat) -> Option<DateFormat> {
+    match format {
+        DateFormat::DayFirst(digits, separator) => Some(DateFormat::MonthFirst(digits, separator)),
+        DateFormat::YearFirst | DateFormat::Compact | DateFormat::MonthFirst(..) => None,
+    }
+}
+
+/// Returns the first format by which a text is a date, if it is one.
+fn date_format(text: &str) -> Option<DateFormat> {
+    for format in &DATES {
+        if read_date(*format, text).is_some() {
+            return Some(*format);
+        }
+    }
+    None
+}
+
+/// Adds the formats by which a text is a date, if it is one.
+pub(crate) fn push_date(below: &mut String, text: &str) -> Result<(), AllocError> {
+    let Some(format) = date_format(text) else {
+        return Ok(());
+    };
+    let pattern = format.pattern();
+    write!(
+        below,
+        "    the text is a date with `\"format\": \"{pattern}\"`"
+    )?;
+    if let Some(other) = month_first(format) {
+        if read_date(other, text).is_some() {
+            let pattern = other.pattern();
+            write!(below, ", or with `\"format\": \"{pattern}\"`")?;
+        }
+    }
+    below.push('\n')
+}
+
+/// Returns the format with a space and these times of day by which a text is a moment, if it is one.
+fn spaced_format(text: &str, time: TimeFormat) -> Option<MomentFormat> {
+    for date in &DATES {
+        let format = MomentFormat::Spaced(*date, time);
+        if read_moment(format, text).is_some() {
+            return Some(format);
+        }
+    }
+    None
+}
+
+/// Returns the format with a space by which a text is a moment, if it is one.
+fn any_spaced_format(text: &str) -> Option<MomentFormat> {
+    for time in &TIMES {
+        if let Some(format) = spaced_format(text, *time) {
+            return Some(format);
+        }
+    }
+    None
+}
+
+/// Returns the format with a `T` by which a text is a moment, if it is one.
+fn joined_format(text: &str) -> Option<MomentFormat> {
+    if read_moment(MomentFormat::Seconds, text).is_some() {
+        Some(MomentFormat::Seconds)
+    } else if read_moment(MomentFormat::Minutes, text).is_some() {
+        Some(MomentFormat::Minutes)
+    } else {
+        None
+    }
+}
+
+/// Adds a format of moments.
+fn push_pattern(below: &mut String, format: MomentFormat) -> Result<(), AllocError> {
+    below.push_str("`\"format\": \"")?;
+    format.push_pattern(below)?;
+    below.push_str("\"`")
+}
+
+/// Adds the formats with a space by which a text is a moment, of which this is the first.
+fn push_spaced(below: &mut String, text: &str, format: MomentFormat) -> Result<(), AllocError> {
+    below.push_str("    the text is a dateTime with `--profile w3c` and ")?;
+    push_pattern(below, format)?;
+    if let MomentFormat::Spaced(date, time) = format {
+        if let Some(other) = month_first(date) {
+            let other = MomentFormat::Spaced(other, time);
+            if read_moment(other, text).is_some() {
+                below.push_str(", or with ")?;
+                push_pattern(below, other)?;
+            }
+        }
+    }
+    below.push('\n')
+}
+
+/// Adds the formats by which a text is a moment, or how one with a zone is read.
+pub(crate) fn push_moment(below: &mut String, alloc: Global, text: &str) -> Result<(), AllocError> {
+    if let Some(format) = joined_format(text) {
+        below.push_str("    the text is a dateTime with ")?;
+        push_pattern(below, format)?;
+        return below.push('\n');
+    }
+    if let Some(format) = any_spaced_format(text) {
+        return push_spaced(below, text, format);
+    }
+    match read_date_time(alloc, Zone::Optional, text)? {
+        Some(_) => below.push_str(
+            "    the text is a dateTime with `--profile w3c`, if the datatype has no `format` and no bound\n",
+        ),
+        None => Ok(()),
+    }
+}

@@ -1,0 +1,73 @@
+//! The format in which a text is a value, if it is none of its datatype as the document says.
+
+use crate::other_date::{push_date, push_moment};
+use crate::other_number::push_number;
+use crate::tables::{TableAt, declared};
+use csvw_datatype::Simple;
+use csvw_text::{Code, Fault, collapse};
+use std::alloc::AllocError;
+
+/// The texts of true and of false, as a format has them.
+const TRUTHS: [&str; 11] = [
+    "Y|N",
+    "y|n",
+    "yes|no",
+    "Yes|No",
+    "YES|NO",
+    "T|F",
+    "t|f",
+    "True|False",
+    "TRUE|FALSE",
+    "ja|nein",
+    "oui|non",
+];
+
+/// Adds the format by which a text is a boolean, if it is one of those that people write.
+fn push_truth(below: &mut String, text: &str) -> Result<(), AllocError> {
+    for format in &TRUTHS {
+        if format.split('|').any(|part| part == text) {
+            return write!(
+                below,
+                "    the text is a boolean with `\"format\": \"{format}\"`\n"
+            );
+        }
+    }
+    Ok(())
+}
+
+/// Returns whether a code says that a text is no value of its datatype.
+fn is_of_text(code: Code) -> bool {
+    matches!(
+        code,
+        Code::BadBoolean | Code::BadInteger | Code::BadDecimal | Code::BadDate | Code::BadDateTime
+    )
+}
+
+/// Adds the format in which the text of a cell is a value, if it is none of its column's datatype: a line of text. Returns
+/// `AllocError` if memory runs out.
+pub fn push_other_format(
+    below: &mut String,
+    table: &TableAt<'_>,
+    fault: &Fault,
+    cell: &str,
+) -> Result<(), AllocError> {
+    let Some(column) = declared(table.plan, fault.place.column) else {
+        return Ok(());
+    };
+    if !is_of_text(fault.code) {
+        return Ok(());
+    }
+    let alloc = *below.allocator();
+    let text = collapse(alloc, cell)?;
+    let text = text.as_str();
+    let simple = column.properties.datatype.get().simple;
+    match simple {
+        Simple::Truth => push_truth(below, text),
+        Simple::Whole | Simple::Derived(_) | Simple::Decimal => {
+            push_number(below, alloc, text, simple)
+        }
+        Simple::Day => push_date(below, text),
+        Simple::Moment => push_moment(below, alloc, text),
+        Simple::Text | Simple::Uri | Simple::Floating(_) | Simple::Other(_) => Ok(()),
+    }
+}
