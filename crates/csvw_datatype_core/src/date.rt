@@ -41,6 +41,25 @@ pub enum DateFormat {
     MonthFirst(FieldDigits, Separator),
 }
 
+/// Each format of a date (Model for Tabular Data and Metadata on the Web, section 6.4.4). Those with the day first come before
+/// those with the month first.
+pub const DATE_FORMATS: [DateFormat; 14] = [
+    DateFormat::YearFirst,
+    DateFormat::Compact,
+    DateFormat::DayFirst(FieldDigits::Two, Separator::Dash),
+    DateFormat::DayFirst(FieldDigits::Two, Separator::Slash),
+    DateFormat::DayFirst(FieldDigits::Two, Separator::Dot),
+    DateFormat::DayFirst(FieldDigits::OneOrTwo, Separator::Dash),
+    DateFormat::DayFirst(FieldDigits::OneOrTwo, Separator::Slash),
+    DateFormat::DayFirst(FieldDigits::OneOrTwo, Separator::Dot),
+    DateFormat::MonthFirst(FieldDigits::Two, Separator::Dash),
+    DateFormat::MonthFirst(FieldDigits::Two, Separator::Slash),
+    DateFormat::MonthFirst(FieldDigits::Two, Separator::Dot),
+    DateFormat::MonthFirst(FieldDigits::OneOrTwo, Separator::Dash),
+    DateFormat::MonthFirst(FieldDigits::OneOrTwo, Separator::Slash),
+    DateFormat::MonthFirst(FieldDigits::OneOrTwo, Separator::Dot),
+];
+
 impl Separator {
     ghost use Rattle.csvw_datatype_core.specs.Dates.{separator_byte};
 

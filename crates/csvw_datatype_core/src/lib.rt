@@ -35,7 +35,7 @@ mod time;
 mod values;
 mod xml_name;
 
-pub use date::{DateFormat, FieldDigits, Separator, one_date, read_date};
+pub use date::{DATE_FORMATS, DateFormat, FieldDigits, Separator, one_date, read_date};
 pub use date_part::{DatePart, date_part_text, one_date_part_text};
 pub use date_time::{DateTime, Zone, date_times, read_date_time};
 pub use language::is_language;

@@ -5,8 +5,8 @@ ghost use Rattle.csvw_draft.specs.Kinds.{core_kinds, day_kinds, kinds_of, spaced
 use crate::value::{date_time_as_value, day_of, double_of, moment_of, number_of, truth_of};
 use csvw_datatype::Value;
 use csvw_datatype_core::{
-    DateFormat, FieldDigits, MomentFormat, NumberRules, Separator, TimeFormat, Zone,
-    read_date_time, time_text,
+    DATE_FORMATS, DateFormat, MomentFormat, NumberRules, TimeFormat, Zone, read_date_time,
+    time_text,
 };
 use csvw_meta::Profile;
 use csvw_text::{Text, collapse};
@@ -57,24 +57,6 @@ pub enum Kind {
     /// `string`.
     Text,
 }
-
-/// The formats of dates. Those with the day first come before those with the month first.
-const DATE_FORMATS: [DateFormat; 14] = [
-    DateFormat::YearFirst,
-    DateFormat::Compact,
-    DateFormat::DayFirst(FieldDigits::Two, Separator::Dash),
-    DateFormat::DayFirst(FieldDigits::Two, Separator::Slash),
-    DateFormat::DayFirst(FieldDigits::Two, Separator::Dot),
-    DateFormat::DayFirst(FieldDigits::OneOrTwo, Separator::Dash),
-    DateFormat::DayFirst(FieldDigits::OneOrTwo, Separator::Slash),
-    DateFormat::DayFirst(FieldDigits::OneOrTwo, Separator::Dot),
-    DateFormat::MonthFirst(FieldDigits::Two, Separator::Dash),
-    DateFormat::MonthFirst(FieldDigits::Two, Separator::Slash),
-    DateFormat::MonthFirst(FieldDigits::Two, Separator::Dot),
-    DateFormat::MonthFirst(FieldDigits::OneOrTwo, Separator::Dash),
-    DateFormat::MonthFirst(FieldDigits::OneOrTwo, Separator::Slash),
-    DateFormat::MonthFirst(FieldDigits::OneOrTwo, Separator::Dot),
-];
 
 /// Adds `date` in each of some formats. Returns `AllocError` if memory runs out.
 fn push_days(kinds: &mut Vec<Kind>, formats: &[DateFormat]) -> Result<(), AllocError>

@@ -1,28 +1,10 @@
 //! The formats by which a text is a date or a moment, if it is none in its column's format.
 
 use csvw_datatype_core::{
-    DateFormat, FieldDigits, MomentFormat, Separator, TimeFormat, Zone, read_date, read_date_time,
+    DATE_FORMATS, DateFormat, MomentFormat, TimeFormat, Zone, read_date, read_date_time,
     read_moment,
 };
 use std::alloc::{AllocError, Global};
-
-/// The formats of dates. Those with the day first come before those with the month first.
-const DATES: [DateFormat; 14] = [
-    DateFormat::YearFirst,
-    DateFormat::Compact,
-    DateFormat::DayFirst(FieldDigits::Two, Separator::Dash),
-    DateFormat::DayFirst(FieldDigits::Two, Separator::Slash),
-    DateFormat::DayFirst(FieldDigits::Two, Separator::Dot),
-    DateFormat::DayFirst(FieldDigits::OneOrTwo, Separator::Dash),
-    DateFormat::DayFirst(FieldDigits::OneOrTwo, Separator::Slash),
-    DateFormat::DayFirst(FieldDigits::OneOrTwo, Separator::Dot),
-    DateFormat::MonthFirst(FieldDigits::Two, Separator::Dash),
-    DateFormat::MonthFirst(FieldDigits::Two, Separator::Slash),
-    DateFormat::MonthFirst(FieldDigits::Two, Separator::Dot),
-    DateFormat::MonthFirst(FieldDigits::OneOrTwo, Separator::Dash),
-    DateFormat::MonthFirst(FieldDigits::OneOrTwo, Separator::Slash),
-    DateFormat::MonthFirst(FieldDigits::OneOrTwo, Separator::Dot),
-];
 
 /// The formats of times of day.
 const TIMES: [TimeFormat; 4] = [
@@ -42,7 +24,7 @@ fn month_first(format: DateFormat) -> Option<DateFormat> {
 
 /// Returns the first format by which a text is a date, if it is one.
 fn date_format(text: &str) -> Option<DateFormat> {
-    for format in &DATES {
+    for format in &DATE_FORMATS {
         if read_date(*format, text).is_some() {
             return Some(*format);
         }
@@ -71,7 +53,7 @@ pub(crate) fn push_date(below: &mut String, text: &str) -> Result<(), AllocError
 
 /// Returns the format with a space and these times of day by which a text is a moment, if it is one.
 fn spaced_format(text: &str, time: TimeFormat) -> Option<MomentFormat> {
-    for date in &DATES {
+    for date in &DATE_FORMATS {
         let format = MomentFormat::Spaced(*date, time);
         if read_moment(format, text).is_some() {
             return Some(format);
