@@ -47,6 +47,25 @@ fn send_line<V: Write>(err: &mut Counted<V>, line: Line<'_>) -> Result<(), LineC
     }
 }
 
+/// Sends a line on the column of this index, which is from 0.
+fn note_column<V: Write>(
+    alloc: Global,
+    err: &mut Counted<V>,
+    path: &str,
+    (i, column): (usize, &Column),
+    parts: &[&str],
+) -> Result<(), AllocError> {
+    let number = i.saturating_add(1).to_string(alloc)?;
+    let line = Line {
+        path,
+        title: column.title.as_str(),
+        number: number.as_str(),
+        parts,
+    };
+    let _ = send_line(err, line);
+    Ok(())
+}
+
 /// Says of which columns of a table not all values were kept. It goes on if a line can't be sent.
 pub(crate) fn note_limits<V: Write>(
     alloc: Global,
@@ -56,14 +75,8 @@ pub(crate) fn note_limits<V: Write>(
 ) -> Result<(), AllocError> {
     for (i, column) in columns.iter().enumerate() {
         if let Some(limit) = column.kept.limit() {
-            let number = i.saturating_add(1).to_string(alloc)?;
-            let line = Line {
-                path,
-                title: column.title.as_str(),
-                number: number.as_str(),
-                parts: &[": ", limit.text(), ", so no key is looked for\n"],
-            };
-            let _ = send_line(err, line);
+            let parts = [": ", limit.text(), ", so no key is looked for\n"];
+            note_column(alloc, err, path, (i, column), &parts)?;
         }
     }
     Ok(())
@@ -79,14 +92,8 @@ pub(crate) fn note_profile<V: Write>(
 ) -> Result<(), AllocError> {
     for (i, column) in columns.iter().enumerate() {
         if let Some(kind) = column.kind_of_w3c() {
-            let number = i.saturating_add(1).to_string(alloc)?;
-            let line = Line {
-                path,
-                title: column.title.as_str(),
-                number: number.as_str(),
-                parts: &[": a string, and a ", kind.name(), " with `--profile w3c`\n"],
-            };
-            let _ = send_line(err, line);
+            let parts = [": a string, and a ", kind.name(), " with `--profile w3c`\n"];
+            note_column(alloc, err, path, (i, column), &parts)?;
         }
     }
     Ok(())
