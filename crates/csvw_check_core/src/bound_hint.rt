@@ -3,6 +3,7 @@
 use csvw_datatype::Simple;
 use csvw_meta::MetaCode;
 use serde_json::Value;
+use std::alloc::{AllocError, Global};
 
 /// The names of bounds, each as the end of a pointer.
 const BOUNDS: [&str; 6] = [
@@ -34,7 +35,7 @@ const FRACTION: &str = "    a number that isn't whole is written as a text, as \
 
 /// Bounds of doubles.
 const DOUBLE: &str =
-    "    a bound of a double isn't supported: leave it out, or write decimal if no text has an exponent, INF or NaN\n";
+    "    a bound is a number, perhaps with an exponent, or INF or -INF, as \"1.5e6\"\n";
 
 /// Bounds of other datatypes whose values have an order.
 const OTHER: &str = "    a bound of this datatype isn't supported: leave it out\n";
@@ -52,6 +53,14 @@ fn datatype_of(pointer: &str) -> Option<&str> {
     None
 }
 
+/// Returns the base of the datatype whose bound a pointer is that of, if it is one.
+fn simple_of(document: &Value, pointer: &str) -> Option<Simple> {
+    match document.pointer(datatype_of(pointer)?)?.get("base") {
+        Some(base) => Simple::of(base.as_str()?),
+        None => Some(Simple::Text),
+    }
+}
+
 /// Returns how a bound of a datatype is written.
 fn written(simple: Simple) -> Option<&'static str> {
     match simple {
@@ -59,32 +68,48 @@ fn written(simple: Simple) -> Option<&'static str> {
         Simple::Decimal => Some(DECIMAL),
         Simple::Day => Some(DAY),
         Simple::Moment => Some(MOMENT),
+        Simple::Floating(_) => Some(DOUBLE),
         Simple::Text | Simple::Uri | Simple::Truth => Some(UNORDERED),
-        Simple::Floating(_) | Simple::Other(_) => None,
+        Simple::Other(_) => None,
     }
 }
 
 /// Returns what to write in place of a bound that isn't supported.
 fn instead_of(simple: Simple, bound: &Value) -> Option<&'static str> {
     match simple {
-        Simple::Floating(_) => Some(DOUBLE),
         Simple::Other(_) => Some(OTHER),
         _ if bound.is_number() => Some(FRACTION),
         _ => None,
     }
 }
 
+/// Returns what helps with the fault of a text that is a bound: how one is written, if the text is none.
+fn text_hint(
+    alloc: Global,
+    simple: Simple,
+    text: &str,
+) -> Result<Option<&'static str>, AllocError> {
+    Ok(match simple.bound(alloc, text)? {
+        None => written(simple),
+        Some(_) => None,
+    })
+}
+
 /// Returns what helps with the fault at a pointer, if it is that of a bound which isn't supported, or is no value of its datatype.
-pub(crate) fn bound_hint(document: &Value, code: MetaCode, pointer: &str) -> Option<&'static str> {
-    let datatype = document.pointer(datatype_of(pointer)?)?;
-    let bound = document.pointer(pointer)?;
-    let simple = match datatype.get("base") {
-        Some(base) => Simple::of(base.as_str()?)?,
-        None => Simple::Text,
+/// Returns `AllocError` if memory runs out.
+pub(crate) fn bound_hint(
+    alloc: Global,
+    document: &Value,
+    code: MetaCode,
+    pointer: &str,
+) -> Result<Option<&'static str>, AllocError> {
+    let (Some(simple), Some(bound)) = (simple_of(document, pointer), document.pointer(pointer))
+    else {
+        return Ok(None);
     };
     match bound.as_str() {
-        _ if code == MetaCode::NotSupported => instead_of(simple, bound),
-        Some(text) if simple.bound(text).is_none() => written(simple),
-        _ => None,
+        _ if code == MetaCode::NotSupported => Ok(instead_of(simple, bound)),
+        Some(text) => text_hint(alloc, simple, text),
+        None => Ok(None),
     }
 }

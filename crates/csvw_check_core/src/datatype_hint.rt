@@ -138,7 +138,7 @@ pub(crate) fn push_datatype_hint(
     if let Some(hint) = format_hint(&document, fault.code, pointer) {
         return hints.push_str(hint);
     }
-    match bound_hint(&document, fault.code, pointer) {
+    match bound_hint(alloc, &document, fault.code, pointer)? {
         Some(hint) => hints.push_str(hint),
         None => Ok(()),
     }

@@ -1,6 +1,6 @@
 -- The bounds that texts and whole numbers are.
 use Rattle.std.proofs.Common.{◌≡◌, ◌↔◌, ℕ, ◌<◌, ◌%◌, ◌^◌, ◌&&◌, not, nat_lt, Bool, true, false, cond, Option, Some, None, MatchOption, IfSome}
-use Rattle.std.proofs.Common.{option_and_then, List, refl, ap, subst, ◌∙◌, arith, ℤ, pos, ◌*ℤ◌, ◌≤ℤ◌, unsigned_abs}
+use Rattle.std.proofs.Common.{option_and_then, List, is_some, refl, sym, ap, subst, ◌∙◌, arith, ℤ, pos, ◌*ℤ◌, ◌≤ℤ◌, unsigned_abs}
 use Rattle.std.specs.Prelude.{IsTrue}
 use Rattle.std.specs.Str.{chars}
 use lib.Signed.{lt_z}
@@ -21,13 +21,16 @@ use Rattle.csvw_datatype.specs.declared.value.Value.TheVariants as values
 use Rattle.csvw_datatype.specs.declared.simple.Simple.{Simple}
 use Rattle.csvw_datatype.specs.declared.simple.Simple.TheVariants as simples
 use Rattle.csvw_datatype.specs.declared.simple.Width.{Width}
+use Rattle.csvw_datatype.specs.declared.simple.Floating.{Floating}
+use Rattle.csvw_double.specs.Forms.{double_form}
+use Rattle.std.specs.Fmt.{signed_decimal}
 use Rattle.csvw_datatype.specs.declared.format.Format.{Format}
 use Rattle.csvw_datatype.specs.Widths.{least, greatest, in_units, IsFrom, IsTo, IsInWidth}
 use Rattle.csvw_datatype.specs.Reads.{ReadsAs, whole_rules, decimal_rules}
 use Rattle.csvw_datatype.specs.Sound.{IsBoundOf, has_bounds, IsNumberSize, IsWholeNumber}
-use Rattle.csvw_datatype.specs.Bounds.{is_from, is_to, is_in_width, number_bound, day_bound, moment_bound, bound_of, bound_of_whole}
+use Rattle.csvw_datatype.specs.Bounds.{is_from, is_to, is_in_width, number_bound, day_bound, moment_bound, double_bound, whole_bound, bound_of, bound_of_whole}
 use Rattle.csvw_datatype.proofs.FormatLemmas.{whole_lawful, decimal_lawful}
-use Rattle.csvw_datatype.proofs.LawLemmas.{OneNumber}
+use Rattle.csvw_datatype.proofs.LawLemmas.{FormsStay, OneNumber}
 
 -- tests
 
@@ -110,6 +113,11 @@ moment_given : (text : List ℕ) (o : Option ℤ)
 moment_given text None h = λ v r. h r.0 r.1
 moment_given text (Some z) h = (z, h, refl)
 
+double_given : (f : Floating) (text : List ℕ) (o : Option (List ℕ)) → double_form text ≡ o
+    → IsBoundGiven (simples.Floating f) text (option_and_then double_bound o)
+double_given f text None is = λ v r. let none = sym is ∙ r.1 in cc
+double_given f text (Some form) is = (form, is, refl)
+
 module _ (numbers : NumbersGiven) (dates : DatesGiven) (moments : MomentsGiven) (one : OneNumber) where
   pub bound_given : (s : Simple) (text : List ℕ) → has_bounds s ≡ true → IsBoundGiven s text (bound_of s text)
   unfolding bound_of
@@ -121,7 +129,7 @@ module _ (numbers : NumbersGiven) (dates : DatesGiven) (moments : MomentsGiven) 
   bound_given simples.Text text h = cc
   bound_given simples.Uri text h = cc
   bound_given (simples.Other t) text h = cc
-  bound_given (simples.Floating t) text h = cc
+  bound_given (simples.Floating t) text h = double_given t text (double_form text) refl
   bound_given simples.Truth text h = cc
 
 -- two answers of one text are the same, where a text has one value at most
@@ -156,7 +164,7 @@ module _ (numbers : NumbersGiven) (dates : DatesGiven) (moments : MomentsGiven) 
   bound_fits simples.Text text = tt
   bound_fits simples.Uri text = tt
   bound_fits (simples.Other t) text = tt
-  bound_fits (simples.Floating t) text = tt
+  bound_fits (simples.Floating t) text = fits_with (simples.Floating t) text refl
   bound_fits simples.Truth text = tt
 
 -- whole numbers in units of 10^-18
@@ -184,10 +192,27 @@ number_fits (simples.Other t) z small = tt
 number_fits (simples.Floating t) z small = tt
 number_fits simples.Truth z small = tt
 
-pub whole_fits : (s : Simple) (z : ℤ) → IfSome (bound_of_whole s z) (IsBoundOf s)
+double_fits : FormsStay → (f : Floating) (text : List ℕ) (o : Option (List ℕ)) → double_form text ≡ o
+    → IfSome (option_and_then double_bound o) (IsBoundOf (simples.Floating f))
+double_fits stay f text None is = tt
+double_fits stay f text (Some form) is = ap is_some (stay text form is)
+
+whole_bound_fits : FormsStay → (s : Simple) (z : ℤ) → unsigned_abs z < 10 ^ 20 → IfSome (whole_bound s z) (IsBoundOf s)
+whole_bound_fits stay (simples.Floating f) z small = double_fits stay f (signed_decimal z) (double_form (signed_decimal z)) refl
+whole_bound_fits stay simples.Whole z small = number_fits simples.Whole z small
+whole_bound_fits stay (simples.Derived w) z small = number_fits (simples.Derived w) z small
+whole_bound_fits stay simples.Decimal z small = number_fits simples.Decimal z small
+whole_bound_fits stay simples.Day z small = tt
+whole_bound_fits stay simples.Moment z small = tt
+whole_bound_fits stay simples.Text z small = tt
+whole_bound_fits stay simples.Uri z small = tt
+whole_bound_fits stay (simples.Other t) z small = tt
+whole_bound_fits stay simples.Truth z small = tt
+
+pub whole_fits : FormsStay → (s : Simple) (z : ℤ) → IfSome (bound_of_whole s z) (IsBoundOf s)
 unfolding bound_of_whole
-whole_fits s z = by_size _ refl
+whole_fits stay s z = by_size _ refl
   where
-    by_size : (b : Bool) → nat_lt (unsigned_abs z) (10 ^ 20) ≡ b → IfSome (cond b (number_bound s (z *ℤ pos (10 ^ 18))) None) (IsBoundOf s)
-    by_size true is = number_fits s z (grind (arith, nat_tests))
+    by_size : (b : Bool) → nat_lt (unsigned_abs z) (10 ^ 20) ≡ b → IfSome (cond b (whole_bound s z) None) (IsBoundOf s)
+    by_size true is = whole_bound_fits stay s z (grind (arith, nat_tests))
     by_size false is = tt

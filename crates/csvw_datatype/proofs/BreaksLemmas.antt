@@ -69,14 +69,6 @@ record IsUnordered (v : Value) : Type 0 where
   up_to : (w : Value) → is_up_to v w ≡ false
   from : (w : Value) → is_up_to w v ≡ false
 
-texts : (text : List ℕ) → IsUnordered (Text text)
-texts text = record {
-  below = λ w. refl;
-  above = λ w. elim w as (λ k. is_below k (Text text) ≡ false) [ Text t ↦ refl | Truth b ↦ refl | Number z ↦ refl | Day d ↦ refl | Moment m ↦ refl ];
-  up_to = λ w. refl;
-  from = λ w. elim w as (λ k. is_up_to k (Text text) ≡ false) [ Text t ↦ refl | Truth b ↦ refl | Number z ↦ refl | Day d ↦ refl | Moment m ↦ refl ];
-}
-
 truths : (b : Bool) → IsUnordered (Truth b)
 truths b = record {
   below = λ w. refl;
@@ -113,10 +105,17 @@ unordered v f h =
     (is_over (Some v) f.maximum || is_over (Some v) f.max_inclusive || is_not_under (Some v) f.max_exclusive)) low
     ∙ ap (λ b. with_sides (length_breaks v f) false b) high
 
+-- a text without lengths and bounds
+unfaceted_text : (text : List ℕ) (f : Facets) → has_lengths f ≡ false → has_bounds f ≡ false → breaks (Text text) f ≡ unbroken
+unfaceted_text text f lengths bounds = sym (unbounded (Text text) f bounds) ∙ sym (unmeasured (Text text) f lengths)
+
+neither : (a b : Bool) → (a || b) ≡ false → (a ≡ false) × (b ≡ false)
+neither true b h = cc
+neither false b h = (refl, h)
+
 pub unfaceted : (v : Value) (f : Facets) → is_faceted v f ≡ false → breaks v f ≡ unbroken
 unfolding with_sides
-unfaceted (Text text) f h =
-    unordered (Text text) f (texts text) ∙ ap (λ b. with_sides b false false) (sym (unmeasured (Text text) f h))
+unfaceted (Text text) f h = let none = neither (has_lengths f) (has_bounds f) h in unfaceted_text text f none.0 none.1
 unfaceted (Truth b) f h = unordered (Truth b) f (truths b)
 unfaceted (Number z) f h = sym (unbounded (Number z) f h)
 unfaceted (Day day) f h = sym (unbounded (Day day) f h)

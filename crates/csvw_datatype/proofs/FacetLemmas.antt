@@ -4,6 +4,8 @@ use Rattle.std.proofs.Common.{◌<ℤ◌, ◌≤ℤ◌}
 use Rattle.std.specs.Prelude.{IsTrue}
 use Rattle.std.specs.Str.{chars}
 use lib.Signed.{lt_z}
+use Rattle.std.specs.Ordering.{is_ge, is_gt, is_some_and}
+use Rattle.csvw_double.specs.Order.{double_cmp}
 use Rattle.std.proofs.lemmas.Bool.Decides.{nat_tests}
 use Rattle.std.proofs.lemmas.Int.{ints, by_lt_z}
 use Rattle.csvw_datatype.specs.declared.value.Value.{Value}
@@ -33,6 +35,10 @@ is_short n k = (λ h. grind (arith, nat_tests), λ h. grind (arith, nat_tests))
 never : IsTrue false ↔ ⊥
 never = (λ h. cc, λ h. absurd h)
 
+unless : (b : Bool) → IsTrue (not b) ↔ (IsTrue b → ⊥)
+unless true = (λ h. absurd (never.0 h), λ h. absurd (h refl))
+unless false = (λ h k. never.0 k, λ h. refl)
+
 pub below : (v w : Value) → IsTrue (is_below v w) ↔ IsLess v w
 below (Number a) (Number b) = is_less a b
 below (Day a) (Day b) = is_less a b
@@ -49,7 +55,11 @@ below (Moment a) (Text t) = never
 below (Moment a) (Truth t) = never
 below (Moment a) (Number t) = never
 below (Moment a) (Day t) = never
-below (Text a) w = never
+below (Text a) (Text b) = unless (is_some_and is_ge (double_cmp a b))
+below (Text a) (Truth t) = never
+below (Text a) (Number t) = never
+below (Text a) (Day t) = never
+below (Text a) (Moment t) = never
 below (Truth a) w = never
 
 pub up_to : (v w : Value) → IsTrue (is_up_to v w) ↔ IsAtMost v w
@@ -68,7 +78,11 @@ up_to (Moment a) (Text t) = never
 up_to (Moment a) (Truth t) = never
 up_to (Moment a) (Number t) = never
 up_to (Moment a) (Day t) = never
-up_to (Text a) w = never
+up_to (Text a) (Text b) = unless (is_some_and is_gt (double_cmp a b))
+up_to (Text a) (Truth t) = never
+up_to (Text a) (Number t) = never
+up_to (Text a) (Day t) = never
+up_to (Text a) (Moment t) = never
 up_to (Truth a) w = never
 
 -- facets

@@ -1,6 +1,6 @@
 -- A text has one value or one code.
 use Rattle.std.proofs.Common.{◌≡◌, ℕ, zero, suc, ◌*◌, ◌%◌, ◌^◌, ◌<◌, ◌⊎◌, inl, inr, Bool, true, false, Option, Some, None, List, [], ◌∷◌, length}
-use Rattle.std.proofs.Common.{refl, sym, ap, subst, ◌∙◌, arith, ℤ, unsigned_abs, unwrap_or, Result, Ok, Err, MatchResult, IfOk, ◌&&◌, if◌then◌else◌}
+use Rattle.std.proofs.Common.{refl, sym, ap, subst, ◌∙◌, arith, ℤ, unsigned_abs, unwrap_or, is_some, Result, Ok, Err, MatchResult, IfOk, ◌&&◌, if◌then◌else◌}
 use Rattle.std.specs.Prelude.{codes}
 use Rattle.std.specs.Str.{chars}
 use Rattle.std.specs.Str.Parse.{digits_value}
@@ -322,18 +322,23 @@ pub writable_answers : {E : Type 0} → ((s : Simple) (f : Option Format) (text 
 writable_answers law s f text (Ok a) h = writable_answer law s f text a h
 writable_answers law s f text (Err e) h = tt
 
-pub bound : DatesInRange → MomentsInRange → (s : Simple) (f : Option Format) (text : List ℕ) (v : Value) → has_bounds s ≡ true → ReadsAs s f text v
+-- the canonical text of a double is a double
+abbrev pub FormsStay : Type 0
+FormsStay = (text form : List ℕ) → double_form text ≡ Some form → double_form form ≡ Some form
+
+pub bound : DatesInRange → MomentsInRange → FormsStay → (s : Simple) (f : Option Format) (text : List ℕ) (v : Value) → has_bounds s ≡ true → ReadsAs s f text v
     → IsBoundOf s v
-bound dates moments simples.Text f text v h r = cc
-bound dates moments simples.Uri f text v h r = cc
-bound dates moments (simples.Other t) f text v h r = cc
-bound dates moments (simples.Floating t) f text v h r = cc
-bound dates moments simples.Truth f text v h r = cc
-bound dates moments simples.Whole f text v h r =
+bound dates moments stay simples.Text f text v h r = cc
+bound dates moments stay simples.Uri f text v h r = cc
+bound dates moments stay (simples.Other t) f text v h r = cc
+bound dates moments stay (simples.Floating t) f text v h r =
+    at_value (λ v. IsBoundOf (simples.Floating t) v) v (values.Text r.0) r.2 (ap is_some (stay text r.0 r.1))
+bound dates moments stay simples.Truth f text v h r = cc
+bound dates moments stay simples.Whole f text v h r =
     at_value (λ v. IsBoundOf simples.Whole v) v (values.Number r.0) r.2 (size (whole_rules f) (chars text) r.0 r.1.0, whole f (chars text) r.0 r.1.0)
-bound dates moments (simples.Derived w) f text v h r = at_value (λ v. IsBoundOf (simples.Derived w) v) v (values.Number r.0) r.3
+bound dates moments stay (simples.Derived w) f text v h r = at_value (λ v. IsBoundOf (simples.Derived w) v) v (values.Number r.0) r.3
     (size (whole_rules f) (chars text) r.0 r.1.0, whole f (chars text) r.0 r.1.0, r.2)
-bound dates moments simples.Decimal f text v h r =
+bound dates moments stay simples.Decimal f text v h r =
     at_value (λ v. IsBoundOf simples.Decimal v) v (values.Number r.0) r.2 (size (decimal_rules f) (chars text) r.0 r.1.0)
-bound dates moments simples.Day f text v h r = at_value (λ v. IsBoundOf simples.Day v) v (values.Day r.0) r.2 (dates (date_format f) text r.0 r.1)
-bound dates moments simples.Moment f text v h r = at_value (λ v. IsBoundOf simples.Moment v) v (values.Moment r.0) r.2 (moments (moment_format f) text r.0 r.1)
+bound dates moments stay simples.Day f text v h r = at_value (λ v. IsBoundOf simples.Day v) v (values.Day r.0) r.2 (dates (date_format f) text r.0 r.1)
+bound dates moments stay simples.Moment f text v h r = at_value (λ v. IsBoundOf simples.Moment v) v (values.Moment r.0) r.2 (moments (moment_format f) text r.0 r.1)

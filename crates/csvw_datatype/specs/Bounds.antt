@@ -2,7 +2,9 @@
 -- section 4.6.2): a text is read in the default format of its type.
 use Rattle.std.specs.Prelude.{ℕ, ◌^◌, ◌&&◌, not, nat_lt, Bool, true, Option, Some, None, option_and_then, if◌then◌else◌, List, ℤ, pos, ◌*ℤ◌, unsigned_abs}
 use Rattle.std.specs.Str.{chars}
+use Rattle.std.specs.Fmt.{signed_decimal}
 use lib.Signed.{lt_z}
+use Rattle.csvw_double.specs.Forms.{double_form}
 use Rattle.csvw_datatype_core.specs.declared.date.DateFormat.TheVariants.{YearFirst}
 use Rattle.csvw_datatype_core.specs.declared.moment.MomentFormat.TheVariants.{Seconds}
 use Rattle.csvw_datatype_core.specs.Values.{number_value, date_value, moment_value}
@@ -39,6 +41,9 @@ day_bound day = Some (values.Day day)
 abbrev pub moment_bound : ℤ → Option Value
 moment_bound moment = Some (values.Moment moment)
 
+abbrev pub double_bound : List ℕ → Option Value
+double_bound form = Some (values.Text form)
+
 -- the bound that a text is
 unfoldable pub bound_of : Simple → List ℕ → Option Value
 bound_of simples.Whole text = option_and_then (number_bound simples.Whole) (number_value (whole_rules None) (chars text))
@@ -46,8 +51,14 @@ bound_of (simples.Derived w) text = option_and_then (number_bound (simples.Deriv
 bound_of simples.Decimal text = option_and_then (number_bound simples.Decimal) (number_value (decimal_rules None) (chars text))
 bound_of simples.Day text = option_and_then day_bound (date_value YearFirst text)
 bound_of simples.Moment text = option_and_then moment_bound (moment_value Seconds text)
+bound_of (simples.Floating f) text = option_and_then double_bound (double_form text)
 bound_of _ text = None
+
+-- a whole number as a bound of a type of numbers
+abbrev pub whole_bound : Simple → ℤ → Option Value
+whole_bound (simples.Floating f) z = option_and_then double_bound (double_form (signed_decimal z))
+whole_bound s z = number_bound s (z *ℤ pos (10 ^ 18))
 
 -- the bound that a whole number below 10^20 in size is
 unfoldable pub bound_of_whole : Simple → ℤ → Option Value
-bound_of_whole s z = if nat_lt (unsigned_abs z) (10 ^ 20) then number_bound s (z *ℤ pos (10 ^ 18)) else None
+bound_of_whole s z = if nat_lt (unsigned_abs z) (10 ^ 20) then whole_bound s z else None

@@ -3,6 +3,8 @@
 use Rattle.std.specs.Prelude.{ℕ, ◌==◌, ◌||◌, nat_lt, not, Bool, false, Option, Some, None, is_some, length}
 use Rattle.std.specs.Str.{chars}
 use lib.Signed.{lt_z}
+use Rattle.std.specs.Ordering.{is_ge, is_gt, is_some_and}
+use Rattle.csvw_double.specs.Order.{double_cmp}
 use Rattle.csvw_datatype.specs.declared.value.Value.{Value}
 use Rattle.csvw_datatype.specs.declared.value.Value.TheVariants.{Text, Truth, Number, Day, Moment}
 use Rattle.csvw_datatype.specs.declared.datatype.Facets.{Facets}
@@ -21,18 +23,21 @@ no_facets = record {
   max_exclusive = None;
 }
 
--- a number, a day or a moment is below another
+-- A number, a day or a moment is below another. A text is a double here: it is neither another nor above it. So NaN, which has no
+-- order, is outside of each range (XML Schema Part 2, section 3.3.5).
 abbrev pub is_below : Value → Value → Bool
 is_below (Number a) (Number b) = lt_z a b
 is_below (Day a) (Day b) = lt_z a b
 is_below (Moment a) (Moment b) = lt_z a b
+is_below (Text a) (Text b) = not (is_some_and is_ge (double_cmp a b))
 is_below _ _ = false
 
--- a number, a day or a moment is another, or below it
+-- a number, a day or a moment is another, or below it; a double isn't above another
 abbrev pub is_up_to : Value → Value → Bool
 is_up_to (Number a) (Number b) = not (lt_z b a)
 is_up_to (Day a) (Day b) = not (lt_z b a)
 is_up_to (Moment a) (Moment b) = not (lt_z b a)
+is_up_to (Text a) (Text b) = not (is_some_and is_gt (double_cmp a b))
 is_up_to _ _ = false
 
 -- how many characters a text has
@@ -85,7 +90,7 @@ unbroken = record { wrong_length = false; too_short = false; too_long = false; b
 
 -- a facet is about such a value: a length about a text, a bound about a value with an order
 abbrev pub is_faceted : Value → Facets → Bool
-is_faceted (Text text) f = has_lengths f
+is_faceted (Text text) f = has_lengths f || has_bounds f
 is_faceted (Truth b) f = false
 is_faceted (Number z) f = has_bounds f
 is_faceted (Day day) f = has_bounds f

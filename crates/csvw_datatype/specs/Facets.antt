@@ -2,6 +2,8 @@
 -- for Tabular Data, section 5.11.2; XML Schema Part 2, section 4.3).
 use Rattle.std.specs.Prelude.{◌≢◌, ◌↔◌, ◌⊎◌, ℕ, ◌<◌, IsTrue, Option, Some, None, length, ◌<ℤ◌, ◌≤ℤ◌}
 use Rattle.std.specs.Str.{chars}
+use Rattle.std.specs.Ordering.{is_ge, is_gt, is_some_and}
+use Rattle.csvw_double.specs.Order.{double_cmp}
 use Rattle.csvw_datatype.specs.declared.value.Value.{Value}
 use Rattle.csvw_datatype.specs.declared.value.Value.TheVariants.{Text, Number, Day, Moment}
 use Rattle.csvw_datatype.specs.declared.datatype.Facets.{Facets}
@@ -17,18 +19,21 @@ abbrev pub HasLength : Value → (ℕ → Type 0) → Type 0
 HasLength (Text text) P = P (length (chars text))
 HasLength _ P = ⊥
 
--- a number, a day or a moment is less than another
+-- A number, a day or a moment is less than another. A text is a double here, and not greater than or equal to another: NaN has no
+-- order, and a value without an order is outside of each range (XML Schema Part 2, section 3.3.5).
 abbrev pub IsLess : Value → Value → Type 0
 IsLess (Number a) (Number b) = a <ℤ b
 IsLess (Day a) (Day b) = a <ℤ b
 IsLess (Moment a) (Moment b) = a <ℤ b
+IsLess (Text a) (Text b) = IsTrue (is_some_and is_ge (double_cmp a b)) → ⊥
 IsLess _ _ = ⊥
 
--- a number, a day or a moment is less than another or equal to it
+-- a number, a day or a moment is less than another or equal to it; a double isn't greater than another
 abbrev pub IsAtMost : Value → Value → Type 0
 IsAtMost (Number a) (Number b) = a ≤ℤ b
 IsAtMost (Day a) (Day b) = a ≤ℤ b
 IsAtMost (Moment a) (Moment b) = a ≤ℤ b
+IsAtMost (Text a) (Text b) = IsTrue (is_some_and is_gt (double_cmp a b)) → ⊥
 IsAtMost _ _ = ⊥
 
 -- length: the exact length of the value

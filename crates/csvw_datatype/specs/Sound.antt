@@ -2,6 +2,7 @@
 -- sections 4.6.1 and 4.6.2).
 use Rattle.std.specs.Prelude.{◌≡◌, ◌<◌, ◌%◌, ◌^◌, ◌&&◌, ◌||◌, not, nat_lt, Bool, true, false, Option, Some, None, IfSome, is_some, ℤ, unsigned_abs}
 use Rattle.csvw_datatype_core.specs.LexicalDates.{IsDayNumber, IsMomentNumber}
+use Rattle.csvw_double.specs.Forms.{double_form}
 use Rattle.csvw_datatype.specs.declared.value.Value.{Value}
 use Rattle.csvw_datatype.specs.declared.value.Value.TheVariants as values
 use Rattle.csvw_datatype.specs.declared.simple.Simple.{Simple}
@@ -28,6 +29,7 @@ has_bounds (simples.Derived w) = true
 has_bounds simples.Decimal = true
 has_bounds simples.Day = true
 has_bounds simples.Moment = true
+has_bounds (simples.Floating f) = true
 has_bounds _ = false
 
 -- a value that some text of the type is, and that can be a bound
@@ -37,6 +39,7 @@ IsBoundOf (simples.Derived w) (values.Number z) = IsNumberSize z × IsWholeNumbe
 IsBoundOf simples.Decimal (values.Number z) = IsNumberSize z
 IsBoundOf simples.Day (values.Day day) = IsDayNumber day
 IsBoundOf simples.Moment (values.Moment moment) = IsMomentNumber moment
+IsBoundOf (simples.Floating f) (values.Text text) = is_some (double_form text) ≡ true
 IsBoundOf _ _ = ⊥
 
 -- each bound that there is, is one of the type; a type without bounds has none

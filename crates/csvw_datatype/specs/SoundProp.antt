@@ -61,6 +61,7 @@ bound-prop (simples.Derived w) (values.Number z) =
 bound-prop simples.Decimal (values.Number z) = hlevel props
 bound-prop simples.Day (values.Day day) = ×_prop (hlevel props) (hlevel props)
 bound-prop simples.Moment (values.Moment moment) = ×_prop (hlevel props) (hlevel props)
+bound-prop (simples.Floating f) (values.Text text) = hlevel props
 bound-prop s v = λ x y. absurd x
 
 some-bound-prop : (s : Simple) (o : Option Value) → IsProp (IfSome o (IsBoundOf s))

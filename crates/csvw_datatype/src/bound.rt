@@ -1,5 +1,5 @@
 //! The bounds that texts and whole numbers are.
-ghost use Rattle.std.specs.Prelude.{◌≡◌, ◌<◌, ◌^◌, ◌*ℤ◌, pos, nat_lt, unsigned_abs, true, MatchOption, IfSome, None, List, ℕ, ℤ, option_and_then};
+ghost use Rattle.std.specs.Prelude.{◌≡◌, ◌<◌, ◌^◌, ◌*ℤ◌, pos, nat_lt, unsigned_abs, true, MatchOption, IfOk, IfSome, None, List, ℕ, ℤ, option_and_then};
 ghost use Rattle.std.specs.Str.{chars};
 ghost use Rattle.csvw_datatype_core.specs.Numbers.{IsLawful};
 ghost use Rattle.csvw_datatype_core.specs.Values.{number_value, date_value, moment_value};
@@ -11,13 +11,13 @@ ghost use Rattle.csvw_datatype.specs.Bounds.{number_bound, day_bound, moment_bou
 
 use crate::laws::values_of_texts;
 use crate::read::{decimal_rules, whole_rules};
+use crate::reading::{day_of, moment_of, number_of};
 use crate::simple::Simple;
 use crate::value::Value;
 use crate::width::{UNIT, is_in_width};
-use csvw_datatype_core::{
-    DateFormat, MomentFormat, NumberRules, one_date, one_moment, one_number, read_date,
-    read_moment, read_number, values_read,
-};
+use csvw_datatype_core::{DateFormat, MomentFormat, one_number, values_read};
+use csvw_double::{canonical_texts_stay, double_of, whole_double};
+use std::alloc::{AllocError, Global};
 
 /// A whole number that is a value of some type is below this limit in size.
 const WHOLE_LIMIT: u128 = 100_000_000_000_000_000_000;
@@ -26,36 +26,39 @@ impl Simple {
     /// Returns the bound of the type that a text is, in the type's default format (Metadata Vocabulary for Tabular
     /// Data, section 5.11.2).
     ///
-    /// Returns `None` if the text is not a value of the type, or if the values of the type have no order.
+    /// Returns `None` if the text is not a value of the type, or if the values of the type have no order. Returns
+    /// `AllocError` if memory runs out.
     #[tactic(auto, unfolding(crate::specs::Bounds::bound_of))]
-    pub fn bound(self, text: &str) -> Option<Value>
-        ensures { result ≡ bound_of self text.now }
+    pub fn bound(self, alloc: Global, text: &str) -> Result<Option<Value>, AllocError>
+        ensures { IfOk result (λ bound. bound ≡ bound_of self text.now) }
     {
-        match self {
+        Ok(match self {
             Simple::Whole | Simple::Derived(_) => {
                 number_bounds(self, number_of(&whole_rules(&None), text))
             }
             Simple::Decimal => number_bounds(self, number_of(&decimal_rules(&None), text)),
-            Simple::Day => day_of(text).map(Value::Day),
-            Simple::Moment => moment_of(text).map(Value::Moment),
-            Simple::Text | Simple::Uri | Simple::Truth | Simple::Other(_) | Simple::Floating(_) => {
-                None
-            }
-        }
+            Simple::Day => day_of(DateFormat::YearFirst, text).map(Value::Day),
+            Simple::Moment => moment_of(MomentFormat::Seconds, text).map(Value::Moment),
+            Simple::Floating(_) => double_of(alloc, text)?.map(Value::Text),
+            Simple::Text | Simple::Uri | Simple::Truth | Simple::Other(_) => None,
+        })
     }
 
     /// Returns the bound of the type that a whole number is.
     ///
-    /// Returns `None` if the number is not a value of the type, or if the values of the type are not numbers.
+    /// Returns `None` if the number is not a value of the type, or if the values of the type are not numbers. Returns
+    /// `AllocError` if memory runs out.
     #[tactic(auto, unfolding(crate::specs::Bounds::bound_of_whole))]
-    pub fn whole_bound(self, number: i128) -> Option<Value>
-        ensures { result ≡ bound_of_whole self number }
+    pub fn whole_bound(self, alloc: Global, number: i128) -> Result<Option<Value>, AllocError>
+        ensures { IfOk result (λ bound. bound ≡ bound_of_whole self number) }
     {
-        if number.unsigned_abs() < WHOLE_LIMIT {
-            number_bound(self, number * UNIT)
-        } else {
-            None
+        if number.unsigned_abs() >= WHOLE_LIMIT {
+            return Ok(None);
         }
+        Ok(match self {
+            Simple::Floating(_) => whole_double(alloc, number)?.map(Value::Text),
+            _ => number_bound(self, number * UNIT),
+        })
     }
 }
 
@@ -78,34 +81,6 @@ fn number_bounds(simple: Simple, number: Option<i128>) -> Option<Value>
     }
 }
 
-fn number_of(rules: &NumberRules, text: &str) -> Option<i128>
-    requires { IsLawful rules.now }
-    ensures { result ≡ number_value rules.now (chars text.now) }
-{
-    values_read();
-    one_number();
-    match read_number(rules, text) {
-        Ok(number) => Some(number),
-        Err(_) => None,
-    }
-}
-
-fn day_of(text: &str) -> Option<i32>
-    ensures { result ≡ date_value YearFirst text.now }
-{
-    values_read();
-    one_date();
-    read_date(DateFormat::YearFirst, text)
-}
-
-fn moment_of(text: &str) -> Option<i64>
-    ensures { result ≡ moment_value Seconds text.now }
-{
-    values_read();
-    one_moment();
-    read_moment(MomentFormat::Seconds, text)
-}
-
 /// A law: the bound that a text is, is the value of the text in the default format. Each bound fits its type.
 pub fn bounds_read()
     ensures text { (s : Simple) (text : List ℕ) → has_bounds s ≡ true
@@ -116,4 +91,5 @@ pub fn bounds_read()
     values_read();
     values_of_texts();
     one_number();
+    canonical_texts_stay();
 }

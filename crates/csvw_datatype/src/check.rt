@@ -12,6 +12,7 @@ use crate::format::Format;
 use crate::simple::{Simple, TextType};
 use crate::value::Value;
 use crate::width::{UNIT, is_in_width};
+use csvw_double::is_double;
 
 /// Numbers are below 10^20 in size, so each has fewer than this many units of 10^-18.
 const NUMBER_LIMIT: u128 = 100_000_000_000_000_000_000_000_000_000_000_000_000;
@@ -119,6 +120,7 @@ fn is_bound_of(simple: Simple, value: &Value) -> bool
         (Simple::Decimal, Value::Number(number)) => is_number_size(*number),
         (Simple::Day, Value::Day(day)) => is_day_number(*day),
         (Simple::Moment, Value::Moment(moment)) => is_moment_number(*moment),
+        (Simple::Floating(_), Value::Text(text)) => is_double(text.as_str()),
         _ => false,
     }
 }

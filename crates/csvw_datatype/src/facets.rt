@@ -6,6 +6,8 @@ ghost use Rattle.csvw_datatype.specs.Breaks.{is_below, is_up_to, length_of, fail
 
 use crate::datatype::{Datatype, Facets};
 use crate::value::Value;
+use csvw_double::compare_doubles;
+use std::cmp::Ordering;
 
 /// The facets that a value breaks, one for each code.
 #[derive(Clone, Copy, Debug, PartialEq, Eq)]
@@ -23,7 +25,8 @@ pub struct Broken {
 }
 
 impl Datatype {
-    /// Returns whether some facet is about such a value: a length about a text, a bound about a value with an order.
+    /// Returns whether some facet is about such a value: a length about a text, a bound about a value with an order, or
+    /// about a text, as a double is one.
     /// Otherwise the value breaks no facet.
     #[inline(always)]
     pub fn is_faceted(&self, value: &Value) -> bool
@@ -31,7 +34,7 @@ impl Datatype {
         ensures unbroken { result ≡ false → breaks value.now self.now.facets ≡ unbroken }
     {
         match value {
-            Value::Text(_) => has_lengths(&self.facets),
+            Value::Text(_) => has_lengths(&self.facets) || self.facets.has_bounds(),
             Value::Truth(_) => false,
             Value::Number(_) | Value::Day(_) | Value::Moment(_) => self.facets.has_bounds(),
         }
@@ -146,6 +149,10 @@ pub(crate) fn is_below(a: &Value, b: &Value) -> bool
         (Value::Number(x), Value::Number(y)) => *x < *y,
         (Value::Day(x), Value::Day(y)) => *x < *y,
         (Value::Moment(x), Value::Moment(y)) => *x < *y,
+        (Value::Text(x), Value::Text(y)) => !matches!(
+            compare_doubles(x.as_str(), y.as_str()),
+            Some(Ordering::Equal | Ordering::Greater)
+        ),
         _ => false,
     }
 }
@@ -157,6 +164,10 @@ fn is_up_to(a: &Value, b: &Value) -> bool
         (Value::Number(x), Value::Number(y)) => *x <= *y,
         (Value::Day(x), Value::Day(y)) => *x <= *y,
         (Value::Moment(x), Value::Moment(y)) => *x <= *y,
+        (Value::Text(x), Value::Text(y)) => !matches!(
+            compare_doubles(x.as_str(), y.as_str()),
+            Some(Ordering::Greater)
+        ),
         _ => false,
     }
 }

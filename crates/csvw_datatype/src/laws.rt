@@ -18,6 +18,7 @@ use csvw_datatype_core::{
     date_forms, date_times, number_forms, one_date, one_date_text, one_moment, one_moment_text,
     one_number, one_number_text,
 };
+use csvw_double::canonical_texts_stay;
 
 /// A law: a text is one value at most.
 pub fn one_value()
@@ -53,6 +54,7 @@ pub fn values_of_texts()
     one_date();
     one_moment();
     date_times();
+    canonical_texts_stay();
 }
 
 /// A law: a value has one lexical form among the texts, which are UTF-8 as each `String` is.

@@ -18,6 +18,7 @@
 //! - `Datatype::is_string` returns whether the base is `string` (`is_string`). `keeps_space` and `keeps_ends` return whether
 //!   white space in cells and at the ends of items stays.
 //! - `Simple::bound` and `whole_bound` return the bounds that texts and whole numbers are: the law `bounds_read`.
+//! - `number_of`, `day_of` and `moment_of` return the value of a text in a format, or `None` exactly if there is none.
 //!
 //! That a datatype is sound has at most one proof (`IsSound-prop`). So an invariant of a crate above can keep that it
 //! was checked.
@@ -31,6 +32,7 @@ mod format;
 mod laws;
 mod lexical;
 mod read;
+mod reading;
 mod simple;
 mod text_value;
 mod truth;
@@ -50,5 +52,6 @@ pub use laws::{
     are_equal, broken_facets, lexical_forms, one_code, one_form, one_value, sound_facets,
     value_or_code, values_of_texts,
 };
+pub use reading::{day_of, moment_of, number_of};
 pub use simple::{Floating, Simple, TextType, Width};
 pub use value::Value;

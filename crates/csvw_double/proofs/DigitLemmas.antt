@@ -41,7 +41,7 @@ scanned_fraction bs = go (slice_index bs (digits_end bs 0) == 46)
     go false = search rules
 
 -- what follows the zeros at the start doesn't begin with one
-after_begins : (ds : List ℕ) → begins (after_zeros ds) ≡ false
+pub after_begins : (ds : List ℕ) → begins (after_zeros ds) ≡ false
 after_begins [] = refl
 after_begins (c ∷ cs) = go (c == 48) refl (after_begins cs)
   where

@@ -5,3 +5,6 @@ mod DigitLemmas
 mod CanonicalLemmas
 mod ValueLemmas
 mod EqualLemmas
+mod OrderLemmas
+mod PlaceLemmas
+mod FaultLemmas

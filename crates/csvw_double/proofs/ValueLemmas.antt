@@ -25,7 +25,7 @@ after n (c ∷ cs) =
     let power : 10 ^ length (c ∷ cs) ≡ 10 * p = pow-succ' 10 (length cs) in
     first ∙ spread n (digit_value c) p (digits_value 10 cs) ∙ ap₂ (λ x y. n * x + y) (sym power) (sym second)
 
-front_is : (c : ℕ) (cs : List ℕ) → digits_value 10 (c ∷ cs) ≡ digit_value c * 10 ^ length cs + digits_value 10 cs
+pub front_is : (c : ℕ) (cs : List ℕ) → digits_value 10 (c ∷ cs) ≡ digit_value c * 10 ^ length cs + digits_value 10 cs
 front_is c cs =
     let e : 0 * 10 + digit_value c ≡ digit_value c = omega arith in
     ap (λ n. digits_value_after 10 n cs) e ∙ after (digit_value c) cs
@@ -101,7 +101,7 @@ front_digits [] c are = are.0
 front_digits (x ∷ xs) c are = front_digits xs c are.1
 
 -- a digit other than 0 has another value than 0
-not_zero : (c : ℕ) → digit_value c < 10 → (c == 48) ≡ false → 0 < digit_value c
+pub not_zero : (c : ℕ) → digit_value c < 10 → (c == 48) ≡ false → 0 < digit_value c
 not_zero c small is = let range = digit_from_value c small in grind (arith, common_steps, is, range.0, range.1)
 
 -- what ends with another digit than 0 is no multiple of ten
@@ -147,7 +147,7 @@ same_places (x ∷ xs) (y ∷ ys) are others long same =
     (digits_value-lt 10 xs are.1) below value in
     ap₂ (λ z (zs : List ℕ). z ∷ zs) (same_digit x y are.0 others.0 parts.0) (same_places xs ys are.1 others.1 shorter parts.1)
 
-at_least : (d p v : ℕ) → 0 < d → p ≤ d * p + v
+pub at_least : (d p v : ℕ) → 0 < d → p ≤ d * p + v
 at_least (suc k) p v some = grind (arith, common_steps)
 at_least zero p v some = absurd (omega (arith, some))
 

@@ -1,12 +1,15 @@
 //! The canonical text of a double's text.
-ghost use Rattle.std.specs.Prelude.{◌≡◌, IfOk, MatchResult, MatchOption, Some, None, pos, ◌+ℤ◌, ◌-ℤ◌};
+ghost use Rattle.std.specs.Prelude.{◌≡◌, IfOk, MatchResult, MatchOption, Some, None, is_some, pos, ◌+ℤ◌, ◌-ℤ◌};
+ghost use Rattle.std.specs.Fmt.{signed_decimal};
 ghost use Rattle.csvw_double.specs.Doubles.{IsNumeralOf, IsShortExponent, is_within};
 ghost use Rattle.csvw_double.specs.Forms.{IsDoubleFault, IsNear, double_form, number_of, special_form};
 
 use crate::form::{Digits, number_text};
 use crate::numeral::{DoubleFault, Number, is_negative, number_in};
+use crate::order::decimal_of;
 use crate::trimmed::{after_zeros, before_zeros};
 use csvw_text::Text;
+use itoa::Buffer;
 use std::alloc::{AllocError, Global};
 
 /// Exponents are below this in size.
@@ -26,7 +29,7 @@ fn special(text: &str) -> Option<&'static str>
 
 /// Returns how many places the point of a number is after the start of its digits, by its exponent and how many digits are
 /// behind the point and from the first that isn't 0.
-fn point_of(exponent: i128, fraction: usize, digits: usize) -> i128
+pub(crate) fn point_of(exponent: i128, fraction: usize, digits: usize) -> i128
     requires { IsShortExponent exponent }
     ensures value { result ≡ (exponent -ℤ pos fraction) +ℤ pos digits }
     ensures near { IsNear result }
@@ -85,4 +88,33 @@ pub fn canonical_double(alloc: Global, text: &str) -> Result<Result<Text, Double
         Some(form) => Ok(Ok(form)),
         None => Ok(Err(DoubleFault::TooLong)),
     }
+}
+
+/// Returns whether a text is a double. It takes no memory (XML Schema Part 2, section 3.3.5).
+#[tactic(auto, unfolding(crate::specs::Forms::double_form))]
+pub fn is_double(text: &str) -> bool
+    ensures { result ≡ is_some (double_form text.now) }
+{
+    if special(text).is_some() {
+        return true;
+    }
+    match number_in(text.as_bytes()) {
+        Ok(number) => is_within(decimal_of(text.as_bytes(), &number).point),
+        Err(_) => false,
+    }
+}
+
+/// Returns the canonical text of the double that a text is, or `None` if it is none. Returns `AllocError` if memory runs out.
+pub fn double_of(alloc: Global, text: &str) -> Result<Option<Text>, AllocError>
+    ensures { IfOk result (λ form. form ≡ double_form text.now) }
+{
+    Ok(canonical_double(alloc, text)?.ok())
+}
+
+/// Returns the canonical text of the double that a whole number is. Returns `AllocError` if memory runs out.
+pub fn whole_double(alloc: Global, number: i128) -> Result<Option<Text>, AllocError>
+    ensures { IfOk result (λ form. form ≡ double_form (signed_decimal number)) }
+{
+    let mut buffer = Buffer::new();
+    double_of(alloc, buffer.format(number))
 }

@@ -2,12 +2,13 @@
 ghost use Rattle.std.specs.Prelude.{◌≡◌, ◌++◌, IfOk, OnOk};
 ghost use Rattle.csvw_draft.specs.Kinds.{core_kinds, day_kinds, kinds_of, spaced_kinds, w3c_kinds};
 
-use crate::value::{date_time_as_value, day_of, double_of, moment_of, number_of, truth_of};
-use csvw_datatype::Value;
+use crate::value::{date_time_as_value, truth_of};
+use csvw_datatype::{Value, day_of, moment_of, number_of};
 use csvw_datatype_core::{
     DATE_FORMATS, DateFormat, MomentFormat, NumberRules, TimeFormat, Zone, read_date_time,
     time_text,
 };
+use csvw_double::double_of;
 use csvw_meta::Profile;
 use csvw_text::{Text, collapse};
 use std::alloc::{AllocError, Global};

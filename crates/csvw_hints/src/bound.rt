@@ -2,7 +2,6 @@
 
 use csvw_datatype::{Datatype, Value, Width};
 use csvw_datatype_core::{date_text, moment_text, number_text};
-use csvw_page::push_quoted;
 use std::alloc::AllocError;
 
 /// What the size of a number is below, in units of 10^-18.
@@ -50,7 +49,7 @@ fn push_moment(text: &mut String, moment: i64) -> Result<(), AllocError> {
 /// Adds a value, in its canonical spelling.
 fn push_value(text: &mut String, value: &Value) -> Result<(), AllocError> {
     match value {
-        Value::Text(form) => push_quoted(text, form.as_str()),
+        Value::Text(form) => text.push_str(form.as_str()),
         Value::Truth(truth) => text.push_str(if *truth { "true" } else { "false" }),
         Value::Number(number) => push_number(text, *number),
         Value::Day(day) => push_day(text, *day),

@@ -10,8 +10,8 @@ use csvw_meta_core::{MetaCode, Part, Reader, Refusal};
 use serde_json::Value;
 
 /// Reads a bound: a text in the default format of the type or, for a type of numbers, a whole number. It is
-/// `BadDatatype` if it is not a value of the type, or if the values of the type have no order. A bound of numbers with an
-/// exponent, of times of day or of parts of dates is `NotSupported`.
+/// `BadDatatype` if it is not a value of the type, or if the values of the type have no order. A bound of times of day, of
+/// moments with zones or of parts of dates is `NotSupported`.
 #[derive(Drop)]
 pub struct BoundReader {
     /// The datatype's `base`.
@@ -25,7 +25,9 @@ impl Reader for BoundReader {
 
     fn read(&self, part: &Part) -> Result<Option<Bound>, Refusal> {
         match part.value {
-            Value::String(text) => bound_found(self.simple, part, self.simple.bound(text)),
+            Value::String(text) => {
+                bound_found(self.simple, part, self.simple.bound(part.alloc, text)?)
+            }
             Value::Number(number) => bound_of_integer(self.simple, part, number.as_i128()),
             _ => Err(part.wrong()),
         }
@@ -37,8 +39,7 @@ fn no_bound(simple: Simple) -> MetaCode
     ensures { result ≡ no_bound simple }
 {
     match simple {
-        Simple::Floating(_)
-        | Simple::Other(TextType::Time | TextType::DateTime(_) | TextType::Part(_)) => {
+        Simple::Other(TextType::Time | TextType::DateTime(_) | TextType::Part(_)) => {
             MetaCode::NotSupported
         }
         _ => MetaCode::BadDatatype,
@@ -63,7 +64,7 @@ fn bound_of_integer(
 {
     match integer {
         Some(integer) if !is_dated(simple) => {
-            bound_found(simple, part, simple.whole_bound(integer))
+            bound_found(simple, part, simple.whole_bound(part.alloc, integer)?)
         }
         _ => Err(part.wrong()),
     }

@@ -292,7 +292,7 @@ fn report_of(alloc: Global, case: &Case) -> Result<String, AllocError> {
 }
 
 /// Returns the text of a table with each cell in a row of its own.
-fn text_of(alloc: Global, cells: &[Cell]) -> Result<String, AllocError> {
+pub(crate) fn text_of(alloc: Global, cells: &[Cell]) -> Result<String, AllocError> {
     let mut text = String::from_str(alloc, "id\n")?;
     for cell in cells {
         push_row(&mut text, cell)?;
@@ -306,7 +306,7 @@ fn push_row(text: &mut String, cell: &Cell) -> Result<(), AllocError> {
 }
 
 /// Returns the document of a table whose one column has a datatype.
-fn document_of(alloc: Global, datatype: &str) -> Result<String, AllocError> {
+pub(crate) fn document_of(alloc: Global, datatype: &str) -> Result<String, AllocError> {
     format!(in alloc;
         "{{\"@context\":\"http://www.w3.org/ns/csvw\",\"url\":\"p.csv\",\"tableSchema\":{{\"columns\":[{{\"name\":\"id\",\"datatype\":{datatype}}}]}}}}"
     )
@@ -319,11 +319,16 @@ fn ran_over(alloc: Global, case: &Case) -> Result<Ran, AllocError> {
     run_over(alloc, meta.as_str(), text.as_str(), Mode::Minimal)
 }
 
-fn gives(alloc: Global, case: &Case) -> Result<bool, AllocError> {
-    let ran = ran_over(alloc, case)?;
+/// Whether a run reached its end, and its graph and its report are those of the cells.
+pub(crate) fn is_run_of(alloc: Global, ran: &Ran, case: &Case) -> Result<bool, AllocError> {
     let is_graph = ran.graph.as_slice() == graph_of(alloc, case)?.as_bytes();
     let is_report = ran.report.as_slice() == report_of(alloc, case)?.as_bytes();
     Ok(ran.stop.is_none() && is_graph && is_report)
+}
+
+fn gives(alloc: Global, case: &Case) -> Result<bool, AllocError> {
+    let ran = ran_over(alloc, case)?;
+    is_run_of(alloc, &ran, case)
 }
 
 #[test]

@@ -11,6 +11,8 @@ mod country_slices;
 #[cfg(test)]
 mod documents;
 #[cfg(test)]
+mod double_bounds;
+#[cfg(test)]
 mod events;
 #[cfg(test)]
 mod examples;

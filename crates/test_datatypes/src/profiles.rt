@@ -240,7 +240,7 @@ pub(crate) struct Refused {
     pub(crate) pointer: &'static str,
 }
 
-static REFUSED: [Refused; 20] = [
+static REFUSED: [Refused; 19] = [
     Refused {
         datatype: r##"{"base":"decimal","format":"0#"}"##,
         code: MetaCode::BadDatatype,
@@ -295,11 +295,6 @@ static REFUSED: [Refused; 20] = [
     Refused {
         datatype: r#"{"base":"json","minimum":"1"}"#,
         code: MetaCode::BadDatatype,
-        pointer: "/minimum",
-    },
-    Refused {
-        datatype: r#"{"base":"double","minimum":"0"}"#,
-        code: MetaCode::NotSupported,
         pointer: "/minimum",
     },
     Refused {

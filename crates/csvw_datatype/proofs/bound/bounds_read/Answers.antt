@@ -10,4 +10,4 @@ returns-clause-fits c =
     c.values_of_texts.ensures.in_type
 
 pub returns-clause-whole_fits : goal.returns-clause-whole_fits
-returns-clause-whole_fits c = law.whole_fits
+returns-clause-whole_fits c = law.whole_fits c.canonical_texts_stay.ensures

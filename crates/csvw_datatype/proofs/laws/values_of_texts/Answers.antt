@@ -5,4 +5,4 @@ pub returns-clause-writable : goal.returns-clause-writable
 returns-clause-writable c = law.writable c.one_date.ensures.in_range c.one_moment.ensures.in_range c.date_times.ensures
 
 pub returns-clause-in_type : goal.returns-clause-in_type
-returns-clause-in_type c = law.bound c.one_date.ensures.in_range c.one_moment.ensures.in_range
+returns-clause-in_type c = law.bound c.one_date.ensures.in_range c.one_moment.ensures.in_range c.canonical_texts_stay.ensures

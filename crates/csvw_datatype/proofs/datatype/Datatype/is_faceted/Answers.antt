@@ -1,14 +1,9 @@
-use Rattle.std.proofs.Common.{◌≡◌, sym, ◌∙◌, subst, refl}
+use Rattle.std.proofs.Common.{◌≡◌, sym, subst, refl}
 use Rattle.csvw_datatype.specs.declared.value.Value.{Value}
-use Rattle.csvw_datatype.specs.declared.value.Value.TheVariants.{Text, Truth}
+use Rattle.csvw_datatype.specs.declared.value.Value.TheVariants.{Truth}
 use Rattle.csvw_datatype.specs.Breaks.{breaks, unbroken}
 use Rattle.csvw_datatype.proofs.BreaksLemmas.{unfaceted}
 use Rattle.csvw_datatype.proofs.datatype.Datatype.is_faceted.Goals as goal
-
-pub returns-in-Text-clause-unbroken : goal.returns-in-Text-clause-unbroken
-returns-in-Text-clause-unbroken c = λ none.
-    let P : Value → Type 0 = λ v. breaks v c.args.self.now.facets ≡ unbroken in
-    subst P (sym c.in-Text.is) (unfaceted (Text c.in-Text.field-0) c.args.self.now.facets (sym c.has_lengths.ensures ∙ none))
 
 pub returns-in-Truth-clause-unbroken : goal.returns-in-Truth-clause-unbroken
 returns-in-Truth-clause-unbroken c = λ none.
