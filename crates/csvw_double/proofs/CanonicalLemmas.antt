@@ -38,13 +38,13 @@ unsigned ds point t near = go (is_plain point)
     go false = by_power ds (point -ℤ pos 1) point t near refl
 
 -- a text begins with a digit
-record IsHeaded (text : List ℕ) : Type 0 where
+pub record IsHeaded (text : List ℕ) : Type 0 where
   sign : after_sign text ≡ text
   plus : is_negative text ≡ false
   special : special_form text ≡ None
   negative : special_form (45 ∷ text) ≡ None
 
-headed : (whole rest : List ℕ) → AllDigits 10 whole → 0 < length whole → IsHeaded (whole ++ rest)
+pub headed : (whole rest : List ℕ) → AllDigits 10 whole → 0 < length whole → IsHeaded (whole ++ rest)
 headed [] rest are some = absurd (omega (arith, some))
 headed (c ∷ cs) rest are some =
     let range = digit_from_value c are.0 in
@@ -56,12 +56,12 @@ headed (c ∷ cs) rest are some =
     }
 
 -- what a sign changes of a text
-record IsSigned (negative : Bool) (text u : List ℕ) : Type 0 where
-  rest : after_sign text ≡ u
-  sign : is_negative text ≡ negative
-  special : special_form text ≡ None
+pub record IsSigned (negative : Bool) (text u : List ℕ) : Type 0 where
+  pub rest : after_sign text ≡ u
+  pub sign : is_negative text ≡ negative
+  pub special : special_form text ≡ None
 
-signed : (negative : Bool) (u : List ℕ) → IsHeaded u → IsSigned negative (sign_form negative ++ u) u
+pub signed : (negative : Bool) (u : List ℕ) → IsHeaded u → IsSigned negative (sign_form negative ++ u) u
 signed true u h = record { rest = refl; sign = refl; special = h.negative }
 signed false u h = record { rest = h.sign; sign = h.plus; special = h.special }
 
@@ -83,13 +83,13 @@ back text u ds p negative point rest scanned sign digits places = record {
   point_is = ap point_of (ap scan_numeral rest ∙ scanned) ∙ places;
 }
 
-chosen : (text u ds : List ℕ) (p : Parts) (negative : Bool) (point : ℤ) → after_sign text ≡ u → scan_numeral u ≡ p → is_negative text ≡ negative
+pub chosen : (text u ds : List ℕ) (p : Parts) (negative : Bool) (point : ℤ) → after_sign text ≡ u → scan_numeral u ≡ p → is_negative text ≡ negative
     → p.len ≡ length u → has_digits p ≡ true → digits_value 10 p.exponent < 10 ^ 18 → digits_of p ≡ ds → point_of p ≡ point
     → is_within (point -ℤ pos 1) ≡ true → number_of text ≡ Some (number_form negative ds point)
 chosen text u ds p negative point rest scanned sign long has small digits places near =
     rw (rest, scanned, sign, long, same (length u), has, lt-ltb (digits_value 10 p.exponent) (10 ^ 18) small, digits, places, near) refl
 
-form_is : (negative : Bool) (ds : List ℕ) (point : ℤ) → 0 < length ds → number_form negative ds point ≡ sign_form negative ++ unsigned_form ds point
+pub form_is : (negative : Bool) (ds : List ℕ) (point : ℤ) → 0 < length ds → number_form negative ds point ≡ sign_form negative ++ unsigned_form ds point
 form_is negative [] point some = absurd (omega (arith, some))
 form_is negative (d ∷ ds) point some = refl
 

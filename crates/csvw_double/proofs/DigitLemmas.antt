@@ -9,7 +9,7 @@ use Rattle.csvw_double.specs.Digits.{after_zeros, before_zeros, is_empty}
 use Rattle.csvw_double.proofs.FormLemmas.{after_digits, before_digits}
 use Rattle.csvw_double.proofs.StayLemmas.{IsTrimmed, begins}
 
-digit_is : (c : ℕ) → is_ascii_digit c ≡ true → digit_value c < 10
+pub digit_is : (c : ℕ) → is_ascii_digit c ≡ true → digit_value c < 10
 digit_is c is = grind (arith, common_steps)
 
 -- the digits at the front of a list

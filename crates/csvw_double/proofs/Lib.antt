@@ -3,6 +3,8 @@ mod FormLemmas
 mod StayLemmas
 mod DigitLemmas
 mod CanonicalLemmas
+mod PlainLemmas
+mod ShortLemmas
 mod ValueLemmas
 mod EqualLemmas
 mod OrderLemmas

@@ -38,7 +38,7 @@ pub record IsRead (text ds : List ℕ) (point : ℤ) : Type 0 where
   pub point_is : point_of parts ≡ point
 
 -- the parts of a number in digits alone
-abbrev plain_parts : List ℕ → Bool → List ℕ → Parts
+abbrev pub plain_parts : List ℕ → Bool → List ℕ → Parts
 plain_parts whole point fraction = record {
   whole = whole;
   point = point;
@@ -67,12 +67,12 @@ zeros_before : (n : ℕ) (ds : List ℕ) → after_zeros (replicate n 48 ++ ds) 
 zeros_before zero ds = refl
 zeros_before (suc n) ds = zeros_before n ds
 
-zeros_after : (n : ℕ) (ds : List ℕ) → before_zeros (ds ++ replicate n 48) ≡ before_zeros ds
+pub zeros_after : (n : ℕ) (ds : List ℕ) → before_zeros (ds ++ replicate n 48) ≡ before_zeros ds
 zeros_after zero ds = ap before_zeros (append-nil ds)
 zeros_after (suc n) ds =
     ap before_zeros (sym (append_assoc ds (48 ∷ []) (replicate n 48))) ∙ zeros_after n (ds ++ 48 ∷ []) ∙ zero_last ds
 
-front_stays : (ds xs : List ℕ) → 0 < length ds → begins ds ≡ false → after_zeros (ds ++ xs) ≡ ds ++ xs
+pub front_stays : (ds xs : List ℕ) → 0 < length ds → begins ds ≡ false → after_zeros (ds ++ xs) ≡ ds ++ xs
 front_stays [] xs some first = absurd (omega (arith, some))
 front_stays (d ∷ ds) xs some first = rw first refl
 

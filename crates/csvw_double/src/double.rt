@@ -4,6 +4,7 @@ ghost use Rattle.std.specs.Fmt.{signed_decimal};
 ghost use Rattle.csvw_double.specs.Doubles.{IsNumeralOf, IsShortExponent, is_within};
 ghost use Rattle.csvw_double.specs.Forms.{IsDoubleFault, IsNear, double_form, number_of, special_form};
 
+use crate::canonical::{canonical_front, is_canonical};
 use crate::form::{Digits, number_text};
 use crate::numeral::{DoubleFault, Number, is_negative, number_in};
 use crate::order::decimal_of;
@@ -53,7 +54,7 @@ fn text_of(alloc: Global, text: &[u8], number: &Number<'_>) -> Result<Option<Tex
     ensures { IfOk result (λ form. number_of text.now ≡ form) }
 {
     let (whole, fraction) = (number.numeral.whole(), number.numeral.fraction());
-    let mut all = Vec::new(alloc);
+    let mut all = Vec::with_capacity(alloc, whole.len() + fraction.len())?;
     all.extend_from_slice(whole)?;
     all.extend_from_slice(fraction)?;
     let from_first = after_zeros(all.as_slice());
@@ -77,6 +78,12 @@ fn text_of(alloc: Global, text: &[u8], number: &Number<'_>) -> Result<Option<Tex
 pub fn canonical_double(alloc: Global, text: &str) -> Result<Result<Text, DoubleFault>, AllocError>
     ensures { IfOk result (λ answer. MatchResult answer (λ form. double_form text.now ≡ Some form) (IsDoubleFault text.now)) }
 {
+    if is_canonical(text) {
+        return Ok(Ok(Text::copied(alloc, text)?));
+    }
+    if let Some(form) = canonical_front(text) {
+        return Ok(Ok(Text::copied(alloc, form)?));
+    }
     if let Some(form) = special(text) {
         return Ok(Ok(Text::copied(alloc, form)?));
     }

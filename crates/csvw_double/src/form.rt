@@ -11,6 +11,9 @@ use std::alloc::{AllocError, Global};
 /// As many zeros as a number in digits alone may have before or after its digits, and more.
 const ZEROS: [u8; 21] = [b'0'; 21];
 
+/// How many bytes most texts have beside their digits, and some more: a sign, a point and zeros.
+const ROOM: usize = 8;
+
 /// Returns the bytes as a text.
 fn as_text(bytes: &[u8]) -> &str
     requires { IsAscii bytes.now }
@@ -114,7 +117,8 @@ pub(crate) fn number_text(alloc: Global, number: Digits<'_>) -> Result<Text, All
     if number.digits.is_empty() {
         return Text::copied(alloc, "0");
     }
-    let mut out = Text::copied(alloc, if number.is_negative { "-" } else { "" })?;
+    let mut out = Text::of(String::with_capacity(alloc, number.digits.len() + ROOM)?);
+    out.push_str(if number.is_negative { "-" } else { "" })?;
     push_unsigned(&mut out, number.digits, number.point)?;
     Ok(out)
 }

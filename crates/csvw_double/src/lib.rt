@@ -18,6 +18,7 @@
 //!   them (`double_cmp`). `NaN` has no order.
 #![tactic(auto)]
 
+mod canonical;
 mod double;
 mod form;
 mod laws;

@@ -238,7 +238,7 @@ const MINUTES: &str = "\
 2024-02-29 23:59=>BadDateTime;\
 =>BadDateTime";
 
-pub(crate) static TEXTS: [Row; 8] = [
+pub(crate) static TEXTS: [Row; 11] = [
     Row {
         simple: Simple::Truth,
         texts: TRUTHS,
@@ -268,6 +268,21 @@ pub(crate) static TEXTS: [Row; 8] = [
     Row {
         simple: Simple::Floating(Floating::Double),
         texts: "1E3=>1000;-0=>0;+INF=>INF;NaN;1.5E=>BadDouble;=>BadDouble;1E1000000000000000000=>NumberTooLong",
+        ..PLAIN
+    },
+    Row {
+        simple: Simple::Floating(Floating::Double),
+        texts: "0;42.5462;-3.25;1200;-1200.5;0.25;-0.0001;0.000001;123456789012345678901;999999999999999999999.9",
+        ..PLAIN
+    },
+    Row {
+        simple: Simple::Floating(Floating::Double),
+        texts: "12.50=>12.5;-3.0=>-3;100.00=>100;0.50=>0.5;-0.0=>0;00.5=>0.5;007.10=>7.1;.5=>0.5;5.=>5;+1.5=>1.5;0.0000001=>1e-7;1.5 =>BadDouble",
+        ..PLAIN
+    },
+    Row {
+        simple: Simple::Floating(Floating::Double),
+        texts: "1234567890123456789012=>1.234567890123456789012e21;1000000000000000000000.0=>1e21;-=>BadDouble;1.5.0=>BadDouble;1,5=>BadDouble",
         ..PLAIN
     },
     Row {
