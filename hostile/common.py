@@ -49,6 +49,10 @@ SPACED = """{"@context":"http://www.w3.org/ns/csvw","url":"s.csv","tableSchema":
 {"name":"at","datatype":{"base":"dateTime","format":"M/d/yyyy HH:mm","minimum":"2020-01-01T00:00:00"}},
 {"name":"seen","separator":";","datatype":{"base":"dateTime","format":"dd.MM.yyyy HHmmss"}}]}}"""
 
+FORMATTED = """{"@context":"http://www.w3.org/ns/csvw","url":"f.csv","tableSchema":{"columns":[
+{"name":"share","datatype":{"base":"number","format":"#,##0.0#"}},
+{"name":"logs","separator":";","datatype":{"base":"double","format":{"decimalChar":",","groupChar":"."}}}]}}"""
+
 BOUNDS = """{"@context":"http://www.w3.org/ns/csvw","url":"b.csv","tableSchema":{"columns":[
 {"name":"share","datatype":{"base":"number","minimum":0,"maxExclusive":"1.5E3"}},
 {"name":"logs","separator":";","datatype":{"base":"double","minExclusive":"-INF","maxInclusive":"0.00000012"}}]}}"""
@@ -69,6 +73,8 @@ FILES = {
                      "2020-01-31T08:30:00,2020-01-31T08:30:00\n2020-01-31T08:30:00.0,\n",
     "spaced/meta.json": SPACED,
     "spaced/s.csv": "at,seen\n1/31/2020 08:30,31.01.2020 083000;29.02.2020 235959\n12/31/2019 23:59,29.02.2019 000000\n01/31/2020  08:30,\n",
+    "formatted/meta.json": FORMATTED,
+    "formatted/f.csv": 'share,logs\n"12,345,678.5","1.234.567,000000000000000001E-300;INF;5%"\n1234.5,"1,5E"\n"100,000,000,000,000,000,000.5",\n',
     "bounds/meta.json": BOUNDS,
     "bounds/b.csv": f"share,logs\n1.{'12' * 30}E2,-1e300;-INF;1.2E-7\n-0.5,1\n1500,NaN\nINF,\n",
     "ragged.csv": "id\n1\n2\n3,4\n",
@@ -104,6 +110,7 @@ RUNS = [
     Run("moments with zones", group("convert --minimal --profile w3c", "moments", "m.csv")),
     Run("moments with a space", group("convert --minimal --profile w3c", "spaced", "s.csv")),
     Run("bounds of numbers with an exponent", group("convert --minimal --profile w3c", "bounds", "b.csv")),
+    Run("formats of numbers with an exponent", group("convert --minimal --profile w3c", "formatted", "f.csv")),
     Run("a document that is refused", group("convert", "twice", "prices.csv", "prices.csv")),
     Run("too few files", group("convert", "rivers", "stations.csv")),
     Run("help", ["--help"]),

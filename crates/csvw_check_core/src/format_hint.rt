@@ -56,7 +56,9 @@ fn described_by(datatype: &Value) -> Option<Described> {
         None => Simple::Text,
     };
     match simple {
-        Simple::Whole | Simple::Decimal | Simple::Derived(_) => Some(Described::Numbers),
+        Simple::Whole | Simple::Decimal | Simple::Derived(_) | Simple::Floating(_) => {
+            Some(Described::Numbers)
+        }
         Simple::Day => Some(Described::Dates),
         Simple::Moment => Some(Described::Moments),
         Simple::Other(TextType::Time) => Some(Described::Times),

@@ -1,11 +1,13 @@
 -- The rules of a sound datatype's format are lawful.
-use Rattle.std.proofs.Common.{Option, Some, None, arith}
+use Rattle.std.proofs.Common.{ℕ, List, Option, Some, None, arith}
 use Rattle.csvw_datatype_core.specs.Numbers.{IsFree, IsLawful}
 use Rattle.csvw_datatype.specs.declared.simple.Simple.TheVariants as simples
 use Rattle.csvw_datatype.specs.declared.simple.Width.{Width}
+use Rattle.csvw_datatype.specs.declared.simple.Floating.{Floating}
 use Rattle.csvw_datatype.specs.declared.format.NumberFormat.{NumberFormat}
 use Rattle.csvw_datatype.specs.declared.format.Format.{Format}
 use Rattle.csvw_datatype.specs.declared.format.Format.TheVariants as formats
+use Rattle.csvw_datatype.specs.DoubleFormats.{mantissa_rules}
 use Rattle.csvw_datatype.specs.Formats.{format_rules, IsFormatOf}
 use Rattle.csvw_datatype.specs.Reads.{whole_rules, decimal_rules}
 
@@ -56,3 +58,16 @@ decimal_lawful (Some (formats.Day f)) h = plain_decimal
 decimal_lawful (Some (formats.Moment f)) h = plain_decimal
 decimal_lawful (Some (formats.Time f)) h = plain_decimal
 decimal_lawful (Some (formats.Expression e)) h = plain_decimal
+
+pub floating_lawful : (t : Floating) (o : Option Format) → IsFormatOf (simples.Floating t) o → IsLawful (decimal_rules o)
+floating_lawful t None h = plain_decimal
+floating_lawful t (Some (formats.Number f)) h = h
+floating_lawful t (Some (formats.Truth f)) h = plain_decimal
+floating_lawful t (Some (formats.Day f)) h = plain_decimal
+floating_lawful t (Some (formats.Moment f)) h = plain_decimal
+floating_lawful t (Some (formats.Time f)) h = plain_decimal
+floating_lawful t (Some (formats.Expression e)) h = plain_decimal
+
+-- the rules of a mantissa differ from those of a number in marks alone
+pub mantissa_lawful : (f : NumberFormat) (parts : Option (List ℕ × List ℕ)) → IsLawful (format_rules f) → IsLawful (mantissa_rules f parts)
+mantissa_lawful f parts l = record { decimal_char = l.decimal_char; group_char = l.group_char; differ = l.differ }

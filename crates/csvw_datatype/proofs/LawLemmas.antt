@@ -1,12 +1,12 @@
 -- A text has one value or one code.
-use Rattle.std.proofs.Common.{◌≡◌, ℕ, zero, suc, ◌*◌, ◌%◌, ◌^◌, ◌<◌, ◌⊎◌, inl, inr, Bool, true, false, Option, Some, None, List, [], ◌∷◌, length}
+use Rattle.std.proofs.Common.{◌≡◌, ℕ, zero, suc, ◌*◌, ◌%◌, ◌^◌, ◌<◌, ◌⊎◌, inl, inr, Bool, true, false, Option, Some, None, List, [], ◌∷◌, ◌++◌, length}
 use Rattle.std.proofs.Common.{refl, sym, ap, subst, ◌∙◌, arith, ℤ, unsigned_abs, unwrap_or, is_some, Result, Ok, Err, MatchResult, IfOk, ◌&&◌, if◌then◌else◌}
 use Rattle.std.specs.Prelude.{codes}
 use Rattle.std.specs.Str.{chars}
 use Rattle.std.specs.Str.Parse.{digits_value}
 use Rattle.std.proofs.Math.Nat.{mul-mod_left}
 use Rattle.csvw_fault.specs.declared.fault.Code.{Code}
-use Rattle.csvw_fault.specs.declared.fault.Code.TheVariants.{BadInteger, BadDecimal}
+use Rattle.csvw_fault.specs.declared.fault.Code.TheVariants.{BadInteger, BadDecimal, BadDouble}
 use Rattle.csvw_datatype_core.specs.declared.number.NumberRules.{NumberRules}
 use Rattle.csvw_datatype_core.specs.declared.number.NumberFault.{NumberFault}
 use Rattle.csvw_datatype_core.specs.declared.number.NumberFault.TheVariants as faults
@@ -14,6 +14,7 @@ use Rattle.csvw_datatype_core.specs.declared.number.Mark.{Mark}
 use Rattle.csvw_datatype_core.specs.declared.number.Mark.TheVariants as marks
 use Rattle.csvw_datatype_core.specs.Numbers.{Sign, NoSign, Plus, Minus, signed, divisor, fraction_digits, digits_of, IsFraction, IsMarked, IsLawful}
 use Rattle.csvw_datatype_core.specs.Numbers.{ReadsNumber, SpellsNumber}
+use Rattle.csvw_datatype_core.specs.Forms.{number_form}
 use Rattle.csvw_datatype_core.specs.Misread.{MisreadNumber}
 use Rattle.csvw_datatype_core.specs.declared.date.DateFormat.{DateFormat}
 use Rattle.csvw_datatype_core.specs.declared.moment.MomentFormat.{MomentFormat}
@@ -37,13 +38,16 @@ use Rattle.csvw_datatype.specs.declared.simple.TextType.TheVariants as types
 use Rattle.csvw_datatype.specs.declared.simple.Width.{Width}
 use Rattle.csvw_datatype.specs.declared.format.Format.{Format}
 use Rattle.csvw_datatype.specs.declared.format.Format.TheVariants as formats
-use Rattle.csvw_datatype.specs.Formats.{IsFormatOf, fits_format, is_described}
+use Rattle.csvw_datatype.specs.declared.format.NumberFormat.{NumberFormat}
+use Rattle.csvw_datatype.specs.declared.simple.Floating.{Floating}
+use Rattle.csvw_datatype.specs.DoubleFormats.{HasNoPlain, IsPlainOf, at_exponent, exponent, is_special, mantissa, mantissa_rules}
+use Rattle.csvw_datatype.specs.Formats.{IsFormatOf, fits_format, fits_pattern, format_rules, is_described}
 use Rattle.csvw_datatype.specs.TextValues.{text_value, text_if, kept, date_time_kept}
 use Rattle.csvw_datatype.specs.Widths.{IsInWidth}
-use Rattle.csvw_datatype.specs.Reads.{SpellsTruth, whole_rules, decimal_rules, date_format, moment_format, ReadsAs, ReadsNumberAs, MisreadAs, MisreadsNumber, number_code, double_code}
+use Rattle.csvw_datatype.specs.Reads.{SpellsTruth, whole_rules, decimal_rules, date_format, moment_format, ReadsAs, ReadsNumberAs, MisreadAs, MisreadsNumber, number_code, double_code, ReadsPlain, ReadsFormatted, ReadsDouble, MisreadsPlain, MisreadsFormatted, MisreadsDouble}
 use Rattle.csvw_datatype.specs.Sound.{IsNumberSize, IsWholeNumber, IsBoundOf, has_bounds}
 use Rattle.csvw_datatype.specs.Lexical.{IsWritable}
-use Rattle.csvw_datatype.proofs.FormatLemmas.{whole_lawful, derived_lawful, decimal_lawful}
+use Rattle.csvw_datatype.proofs.FormatLemmas.{whole_lawful, derived_lawful, decimal_lawful, floating_lawful, mantissa_lawful}
 
 -- the laws of csvw_datatype_core: a text is one number, one date and one moment at most, and days and moments have a range
 
@@ -169,6 +173,91 @@ inside x y e = ap (λ o. unwrap_or o []) e
 same_value : {v w : Value} → Some v ≡ Some w → v ≡ w
 same_value {v = v} e = ap (λ o. unwrap_or o v) e
 
+-- numbers with an exponent in a format
+
+abbrev OnePlain : Type 0
+OnePlain = (f : NumberFormat) (text p q : List ℕ) → IsLawful (format_rules f) → IsPlainOf f text p → IsPlainOf f text q → p ≡ q
+
+one_plain : OneNumber → OnePlain
+one_plain one f text p q l (inl a) (inl b) = a.1 ∙ sym b.1
+one_plain one f text p q l (inl a) (inr b) = absurd (no_both (is_special text) a.0 b.0)
+one_plain one f text p q l (inr a) (inl b) = absurd (no_both (is_special text) b.0 a.0)
+one_plain one f text p q l (inr a) (inr b) =
+    let parts : Option (List ℕ × List ℕ) = at_exponent text in
+    let same : a.1.0 ≡ b.1.0 = one (mantissa_rules f parts) (chars (mantissa text parts)) a.1.0 b.1.0 (mantissa_lawful f parts l) a.1.1 b.1.1 in
+    a.1.2 ∙ ap (λ z. number_form z ++ exponent parts) same ∙ sym b.1.2
+
+plain_value : (text : List ℕ) (v w : Value) → ReadsPlain text v → ReadsPlain text w → v ≡ w
+plain_value text v w r s = r.2 ∙ ap (λ x. values.Text x) (inside r.0 s.0 (sym r.1 ∙ s.1)) ∙ sym s.2
+
+formatted_value : OnePlain → (f : NumberFormat) (text : List ℕ) (v w : Value) → IsLawful (format_rules f) → ReadsFormatted f text v
+    → ReadsFormatted f text w → v ≡ w
+formatted_value one f text v w l r s = plain_value s.1 v w (subst (λ p. ReadsPlain p v) (one f text r.1 s.1 l r.2 s.2) r.3) s.3
+
+double_value : OneNumber → (o : Option Format) (text : List ℕ) (v w : Value) → IsLawful (decimal_rules o) → ReadsDouble o text v
+    → ReadsDouble o text w → v ≡ w
+double_value one None text v w l r s = plain_value text v w r s
+double_value one (Some (formats.Number f)) text v w l r s = formatted_value (one_plain one) f text v w l r s
+double_value one (Some (formats.Truth f)) text v w l r s = plain_value text v w r s
+double_value one (Some (formats.Day f)) text v w l r s = plain_value text v w r s
+double_value one (Some (formats.Moment f)) text v w l r s = plain_value text v w r s
+double_value one (Some (formats.Time f)) text v w l r s = plain_value text v w r s
+double_value one (Some (formats.Expression e)) text v w l r s = plain_value text v w r s
+
+plain_or_fault : (text : List ℕ) (v : Value) (code : Code) → ReadsPlain text v → MisreadsPlain text code → ⊥
+plain_or_fault text v code r m = double_or_fault text r.0 m.0 r.1 m.1
+
+plain_or_none : (f : NumberFormat) (text plain : List ℕ) (fault : NumberFault) → IsPlainOf f text plain → HasNoPlain f text fault → ⊥
+plain_or_none f text plain fault (inl a) h = no_both (is_special text) a.0 h.0
+plain_or_none f text plain fault (inr a) h =
+    not_misread (mantissa_rules f (at_exponent text)) (chars (mantissa text (at_exponent text))) a.1.0 fault a.1.1 h.1
+
+formatted_or_code : OnePlain → (f : NumberFormat) (text : List ℕ) (v : Value) (code : Code) → IsLawful (format_rules f) → ReadsFormatted f text v
+    → MisreadsFormatted f text code → ⊥
+formatted_or_code one f text v code l r (inl m) = no_both (fits_pattern f (chars text)) r.0 m.0
+formatted_or_code one f text v code l r (inr (inl m)) = plain_or_none f text r.1 m.1 r.2 m.2
+formatted_or_code one f text v code l r (inr (inr m)) =
+    plain_or_fault m.1 v code (subst (λ p. ReadsPlain p v) (one f text r.1 m.1 l r.2 m.2) r.3) m.3
+
+double_or_code : OneNumber → (o : Option Format) (text : List ℕ) (v : Value) (code : Code) → IsLawful (decimal_rules o) → ReadsDouble o text v
+    → MisreadsDouble o text code → ⊥
+double_or_code one None text v code l r m = plain_or_fault text v code r m
+double_or_code one (Some (formats.Number f)) text v code l r m = formatted_or_code (one_plain one) f text v code l r m
+double_or_code one (Some (formats.Truth f)) text v code l r m = plain_or_fault text v code r m
+double_or_code one (Some (formats.Day f)) text v code l r m = plain_or_fault text v code r m
+double_or_code one (Some (formats.Moment f)) text v code l r m = plain_or_fault text v code r m
+double_or_code one (Some (formats.Time f)) text v code l r m = plain_or_fault text v code r m
+double_or_code one (Some (formats.Expression e)) text v code l r m = plain_or_fault text v code r m
+
+plain_code : (text : List ℕ) (c d : Code) → MisreadsPlain text c → MisreadsPlain text d → c ≡ d
+plain_code text c d p q = p.2 ∙ ap double_code (one_double_fault text p.0 q.0 p.1 q.1) ∙ sym q.2
+
+none_fault : (f : NumberFormat) (text : List ℕ) (a b : NumberFault) → HasNoPlain f text a → HasNoPlain f text b → a ≡ b
+none_fault f text a b p q = one_fault (mantissa_rules f (at_exponent text)) (chars (mantissa text (at_exponent text))) a b p.1 q.1
+
+formatted_code : OnePlain → (f : NumberFormat) (text : List ℕ) (c d : Code) → IsLawful (format_rules f) → MisreadsFormatted f text c
+    → MisreadsFormatted f text d → c ≡ d
+formatted_code one f text c d l (inl p) (inl q) = p.1 ∙ sym q.1
+formatted_code one f text c d l (inl p) (inr (inl q)) = absurd (no_both (fits_pattern f (chars text)) q.0 p.0)
+formatted_code one f text c d l (inl p) (inr (inr q)) = absurd (no_both (fits_pattern f (chars text)) q.0 p.0)
+formatted_code one f text c d l (inr (inl p)) (inl q) = absurd (no_both (fits_pattern f (chars text)) p.0 q.0)
+formatted_code one f text c d l (inr (inr p)) (inl q) = absurd (no_both (fits_pattern f (chars text)) p.0 q.0)
+formatted_code one f text c d l (inr (inl p)) (inr (inl q)) = p.3 ∙ ap (number_code BadDouble) (none_fault f text p.1 q.1 p.2 q.2) ∙ sym q.3
+formatted_code one f text c d l (inr (inl p)) (inr (inr q)) = absurd (plain_or_none f text q.1 p.1 q.2 p.2)
+formatted_code one f text c d l (inr (inr p)) (inr (inl q)) = absurd (plain_or_none f text p.1 q.1 p.2 q.2)
+formatted_code one f text c d l (inr (inr p)) (inr (inr q)) =
+    plain_code q.1 c d (subst (λ t. MisreadsPlain t c) (one f text p.1 q.1 l p.2 q.2) p.3) q.3
+
+double_codes : OneNumber → (o : Option Format) (text : List ℕ) (c d : Code) → IsLawful (decimal_rules o) → MisreadsDouble o text c
+    → MisreadsDouble o text d → c ≡ d
+double_codes one None text c d l p q = plain_code text c d p q
+double_codes one (Some (formats.Number f)) text c d l p q = formatted_code (one_plain one) f text c d l p q
+double_codes one (Some (formats.Truth f)) text c d l p q = plain_code text c d p q
+double_codes one (Some (formats.Day f)) text c d l p q = plain_code text c d p q
+double_codes one (Some (formats.Moment f)) text c d l p q = plain_code text c d p q
+double_codes one (Some (formats.Time f)) text c d l p q = plain_code text c d p q
+double_codes one (Some (formats.Expression e)) text c d l p q = plain_code text c d p q
+
 -- values
 
 pub one_value : OneNumber → OneDate → OneMoment → (s : Simple) (f : Option Format) (text : List ℕ) (v w : Value) → IsFormatOf s f → ReadsAs s f text v
@@ -176,7 +265,7 @@ pub one_value : OneNumber → OneDate → OneMoment → (s : Simple) (f : Option
 one_value one date moment simples.Text f text v w ok r s = r.1 ∙ sym s.1
 one_value one date moment simples.Uri f text v w ok r s = r.1 ∙ sym s.1
 one_value one date moment (simples.Other t) f text v w ok r s = same_value (sym r ∙ s)
-one_value one date moment (simples.Floating t) f text v w ok r s = r.2 ∙ ap (λ x. values.Text x) (inside r.0 s.0 (sym r.1 ∙ s.1)) ∙ sym s.2
+one_value one date moment (simples.Floating t) f text v w ok r s = double_value one f text v w (floating_lawful t f ok) r s
 one_value one date moment simples.Truth f text v w ok r s = r.2 ∙ ap (λ b. values.Truth b) (one_truth f text r.0 s.0 ok r.1 s.1) ∙ sym s.2
 one_value one date moment simples.Whole f text v w ok r s = same_number one (whole_rules f) (whole_lawful f ok) (chars text) v w r.0 s.0 r.1.0 s.1.0 r.2 s.2
 one_value one date moment (simples.Derived width) f text v w ok r s =
@@ -193,7 +282,7 @@ pub value_or_code : OneNumber → (s : Simple) (f : Option Format) (text : List 
 value_or_code one simples.Text f text v code ok r m = no_both (is_described f text) r.0 m.0
 value_or_code one simples.Uri f text v code ok r m = no_both (is_described f text) r.0 m.0
 value_or_code one (simples.Other t) f text v code ok r m = some_or_none (text_value t f text) v r m.0
-value_or_code one (simples.Floating t) f text v code ok r m = double_or_fault text r.0 m.0 r.1 m.1
+value_or_code one (simples.Floating t) f text v code ok r m = double_or_code one f text v code (floating_lawful t f ok) r m
 value_or_code one simples.Truth f text v code ok r m = m.0 r.0 r.1
 value_or_code one simples.Whole f text v code ok r m = not_misread_as BadInteger (whole_rules f) f text r.0 code r.1 m
 value_or_code one (simples.Derived w) f text v code ok r m = elim m [
@@ -204,14 +293,14 @@ value_or_code one simples.Decimal f text v code ok r m = not_misread_as BadDecim
 value_or_code one simples.Day f text v code ok r m = m.0 r.0 r.1
 value_or_code one simples.Moment f text v code ok r m = m.0 r.0 r.1
 
-pub one_code : (s : Simple) (f : Option Format) (text : List ℕ) (c d : Code) → IsFormatOf s f → MisreadAs s f text c → MisreadAs s f text d → c ≡ d
-one_code simples.Text f text c d ok p q = p.1 ∙ sym q.1
-one_code simples.Uri f text c d ok p q = p.1 ∙ sym q.1
-one_code (simples.Other t) f text c d ok p q = p.1 ∙ sym q.1
-one_code (simples.Floating t) f text c d ok p q = p.2 ∙ ap double_code (one_double_fault text p.0 q.0 p.1 q.1) ∙ sym q.2
-one_code simples.Truth f text c d ok p q = p.1 ∙ sym q.1
-one_code simples.Whole f text c d ok p q = one_number_code BadInteger (whole_rules f) f text c d p q
-one_code (simples.Derived w) f text c d ok p q = elim p [
+pub one_code : OneNumber → (s : Simple) (f : Option Format) (text : List ℕ) (c d : Code) → IsFormatOf s f → MisreadAs s f text c → MisreadAs s f text d → c ≡ d
+one_code one simples.Text f text c d ok p q = p.1 ∙ sym q.1
+one_code one simples.Uri f text c d ok p q = p.1 ∙ sym q.1
+one_code one (simples.Other t) f text c d ok p q = p.1 ∙ sym q.1
+one_code one (simples.Floating t) f text c d ok p q = double_codes one f text c d (floating_lawful t f ok) p q
+one_code one simples.Truth f text c d ok p q = p.1 ∙ sym q.1
+one_code one simples.Whole f text c d ok p q = one_number_code BadInteger (whole_rules f) f text c d p q
+one_code one (simples.Derived w) f text c d ok p q = elim p [
   | inl m ↦ elim q [
     | inl n ↦ one_number_code BadInteger (whole_rules f) f text c d m n
     | inr n ↦ absurd (not_misread_as BadInteger (whole_rules f) f text n.0 c n.1 m)
@@ -221,9 +310,9 @@ one_code (simples.Derived w) f text c d ok p q = elim p [
     | inr n ↦ m.3 ∙ sym n.3
   ]
 ]
-one_code simples.Decimal f text c d ok p q = one_number_code BadDecimal (decimal_rules f) f text c d p q
-one_code simples.Day f text c d ok p q = p.1 ∙ sym q.1
-one_code simples.Moment f text c d ok p q = p.1 ∙ sym q.1
+one_code one simples.Decimal f text c d ok p q = one_number_code BadDecimal (decimal_rules f) f text c d p q
+one_code one simples.Day f text c d ok p q = p.1 ∙ sym q.1
+one_code one simples.Moment f text c d ok p q = p.1 ∙ sym q.1
 
 -- what a text is can be written, and is of the type
 
@@ -233,7 +322,7 @@ signed_abs Plus n = refl
 signed_abs Minus zero = refl
 signed_abs Minus (suc n) = refl
 
-size : (rules : NumberRules) (cs : List ℕ) (z : ℤ) → ReadsNumber rules cs z → IsNumberSize z
+pub size : (rules : NumberRules) (cs : List ℕ) (z : ℤ) → ReadsNumber rules cs z → IsNumberSize z
 size rules cs z r = let e : unsigned_abs z ≡ r.count = ap unsigned_abs r.is_value ∙ signed_abs r.parts.sign r.count in subst (λ n. n < 10 ^ 38) (sym e) r.small
 
 no_fraction : (group : Option ℕ) (o : Option (List ℕ)) → IsFraction (record { decimal_char = None; group_char = group; allows_marks = false }) o
@@ -299,11 +388,23 @@ text_writable zoned types.Time f text v e = kept_writable _ v e
 text_writable zoned (types.DateTime zone) f text v e = date_time_writable _ v (zoned zone text) e
 text_writable zoned (types.Part part) f text v e = kept_writable _ v e
 
+plain_writable : (text : List ℕ) (v : Value) → ReadsPlain text v → IsWritable v
+plain_writable text v r = at_value (λ v. IsWritable v) v (values.Text r.0) r.2 tt
+
+double_writable : (o : Option Format) (text : List ℕ) (v : Value) → ReadsDouble o text v → IsWritable v
+double_writable None text v r = plain_writable text v r
+double_writable (Some (formats.Number f)) text v r = plain_writable r.1 v r.3
+double_writable (Some (formats.Truth f)) text v r = plain_writable text v r
+double_writable (Some (formats.Day f)) text v r = plain_writable text v r
+double_writable (Some (formats.Moment f)) text v r = plain_writable text v r
+double_writable (Some (formats.Time f)) text v r = plain_writable text v r
+double_writable (Some (formats.Expression e)) text v r = plain_writable text v r
+
 pub writable : DatesInRange → MomentsInRange → DateTimesInRange → (s : Simple) (f : Option Format) (text : List ℕ) (v : Value) → ReadsAs s f text v → IsWritable v
 writable dates moments zoned simples.Text f text v r = at_value (λ v. IsWritable v) v (values.Text text) r.1 tt
 writable dates moments zoned simples.Uri f text v r = at_value (λ v. IsWritable v) v (values.Text text) r.1 tt
 writable dates moments zoned (simples.Other t) f text v r = text_writable zoned t f text v r
-writable dates moments zoned (simples.Floating t) f text v r = at_value (λ v. IsWritable v) v (values.Text r.0) r.2 tt
+writable dates moments zoned (simples.Floating t) f text v r = double_writable f text v r
 writable dates moments zoned simples.Truth f text v r = at_value (λ v. IsWritable v) v (values.Truth r.0) r.2 tt
 writable dates moments zoned simples.Whole f text v r = at_value (λ v. IsWritable v) v (values.Number r.0) r.2 (size (whole_rules f) (chars text) r.0 r.1.0)
 writable dates moments zoned (simples.Derived w) f text v r = at_value (λ v. IsWritable v) v (values.Number r.0) r.3 (size (whole_rules f) (chars text) r.0 r.1.0)
@@ -326,13 +427,24 @@ writable_answers law s f text (Err e) h = tt
 abbrev pub FormsStay : Type 0
 FormsStay = (text form : List ℕ) → double_form text ≡ Some form → double_form form ≡ Some form
 
+plain_bound : FormsStay → (t : Floating) (text : List ℕ) (v : Value) → ReadsPlain text v → IsBoundOf (simples.Floating t) v
+plain_bound stay t text v r = at_value (λ v. IsBoundOf (simples.Floating t) v) v (values.Text r.0) r.2 (ap is_some (stay text r.0 r.1))
+
+double_bound : FormsStay → (t : Floating) (o : Option Format) (text : List ℕ) (v : Value) → ReadsDouble o text v → IsBoundOf (simples.Floating t) v
+double_bound stay t None text v r = plain_bound stay t text v r
+double_bound stay t (Some (formats.Number f)) text v r = plain_bound stay t r.1 v r.3
+double_bound stay t (Some (formats.Truth f)) text v r = plain_bound stay t text v r
+double_bound stay t (Some (formats.Day f)) text v r = plain_bound stay t text v r
+double_bound stay t (Some (formats.Moment f)) text v r = plain_bound stay t text v r
+double_bound stay t (Some (formats.Time f)) text v r = plain_bound stay t text v r
+double_bound stay t (Some (formats.Expression e)) text v r = plain_bound stay t text v r
+
 pub bound : DatesInRange → MomentsInRange → FormsStay → (s : Simple) (f : Option Format) (text : List ℕ) (v : Value) → has_bounds s ≡ true → ReadsAs s f text v
     → IsBoundOf s v
 bound dates moments stay simples.Text f text v h r = cc
 bound dates moments stay simples.Uri f text v h r = cc
 bound dates moments stay (simples.Other t) f text v h r = cc
-bound dates moments stay (simples.Floating t) f text v h r =
-    at_value (λ v. IsBoundOf (simples.Floating t) v) v (values.Text r.0) r.2 (ap is_some (stay text r.0 r.1))
+bound dates moments stay (simples.Floating t) f text v h r = double_bound stay t f text v r
 bound dates moments stay simples.Truth f text v h r = cc
 bound dates moments stay simples.Whole f text v h r =
     at_value (λ v. IsBoundOf simples.Whole v) v (values.Number r.0) r.2 (size (whole_rules f) (chars text) r.0 r.1.0, whole f (chars text) r.0 r.1.0)

@@ -2,6 +2,7 @@ mod BreaksLemmas
 mod CharacterLemmas
 mod BarLemmas
 mod FormatLemmas
+mod ExponentLemmas
 mod LawLemmas
 mod OneForm
 mod FacetLemmas

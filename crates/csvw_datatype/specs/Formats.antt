@@ -68,6 +68,7 @@ IsFormatOf simples.Truth (Some (formats.Truth f)) = AreTruthTexts f
 IsFormatOf simples.Whole (Some (formats.Number f)) = IsLawful (format_rules f)
 IsFormatOf (simples.Derived w) (Some (formats.Number f)) = IsLawful (format_rules f)
 IsFormatOf simples.Decimal (Some (formats.Number f)) = IsLawful (format_rules f)
+IsFormatOf (simples.Floating t) (Some (formats.Number f)) = IsLawful (format_rules f)
 IsFormatOf simples.Day (Some (formats.Day f)) = Unit {0}
 IsFormatOf simples.Moment (Some (formats.Moment f)) = Unit {0}
 IsFormatOf (simples.Other types.Time) (Some (formats.Time f)) = Unit {0}

@@ -6,6 +6,7 @@ pub mod Widths
 pub mod Formats
 pub mod Breaks
 pub mod TextValues
+pub mod DoubleFormats
 pub mod Reads
 pub mod Sound
 pub mod SoundProp

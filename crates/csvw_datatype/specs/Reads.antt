@@ -26,7 +26,9 @@ use Rattle.csvw_datatype.specs.declared.simple.TextType.{TextType}
 use Rattle.csvw_datatype.specs.declared.format.Format.{Format}
 use Rattle.csvw_datatype.specs.declared.format.Format.TheVariants as formats
 use Rattle.csvw_datatype.specs.declared.datatype.Datatype.{Datatype}
-use Rattle.csvw_datatype.specs.Formats.{fits_format, format_rules, is_described}
+use Rattle.csvw_datatype.specs.declared.format.NumberFormat.{NumberFormat}
+use Rattle.csvw_datatype.specs.DoubleFormats.{HasNoPlain, IsPlainOf}
+use Rattle.csvw_datatype.specs.Formats.{fits_format, fits_pattern, format_rules, is_described}
 use Rattle.csvw_datatype.specs.TextValues.{text_value, text_code}
 use Rattle.csvw_datatype.specs.Widths.{IsInWidth}
 
@@ -58,8 +60,16 @@ abbrev pub ReadsString : Option Format → List ℕ → Value → Type 0
 ReadsString format text v = (is_described format text ≡ true) × (v ≡ values.Text text)
 
 -- the value of a double is its canonical text
-abbrev pub ReadsDouble : List ℕ → Value → Type 0
-ReadsDouble text v = (form : List ℕ) × (double_form text ≡ Some form) × (v ≡ values.Text form)
+abbrev pub ReadsPlain : List ℕ → Value → Type 0
+ReadsPlain text v = (form : List ℕ) × (double_form text ≡ Some form) × (v ≡ values.Text form)
+
+-- a text in a format is the double of the text of XML Schema that it writes, if it is written as the pattern says
+abbrev pub ReadsFormatted : NumberFormat → List ℕ → Value → Type 0
+ReadsFormatted f text v = (fits_pattern f (chars text) ≡ true) × (plain : List ℕ) × IsPlainOf f text plain × ReadsPlain plain v
+
+abbrev pub ReadsDouble : Option Format → List ℕ → Value → Type 0
+ReadsDouble (Some (formats.Number f)) text v = ReadsFormatted f text v
+ReadsDouble _ text v = ReadsPlain text v
 
 -- the value of a type that keeps texts
 abbrev pub ReadsText : TextType → Option Format → List ℕ → Value → Type 0
@@ -74,7 +84,7 @@ abbrev pub ReadsAs : Simple → Option Format → List ℕ → Value → Type 0
 ReadsAs simples.Text format text v = ReadsString format text v
 ReadsAs simples.Uri format text v = ReadsString format text v
 ReadsAs (simples.Other t) format text v = ReadsText t format text v
-ReadsAs (simples.Floating t) format text v = ReadsDouble text v
+ReadsAs (simples.Floating t) format text v = ReadsDouble format text v
 ReadsAs simples.Truth format text v = (b : Bool) × SpellsTruth format text b × (v ≡ values.Truth b)
 ReadsAs simples.Whole format text v = (z : ℤ) × ReadsNumberAs (whole_rules format) format text z × (v ≡ values.Number z)
 ReadsAs (simples.Derived w) format text v = (z : ℤ) × ReadsNumberAs (whole_rules format) format text z × IsInWidth w z × (v ≡ values.Number z)
@@ -105,8 +115,19 @@ MisreadsNumber bad rules format text code =
 abbrev pub MisreadsString : Option Format → List ℕ → Code → Type 0
 MisreadsString format text code = (is_described format text ≡ false) × (code ≡ BadText)
 
-abbrev pub MisreadsDouble : List ℕ → Code → Type 0
-MisreadsDouble text code = (fault : DoubleFault) × IsDoubleFault text fault × (code ≡ double_code fault)
+abbrev pub MisreadsPlain : List ℕ → Code → Type 0
+MisreadsPlain text code = (fault : DoubleFault) × IsDoubleFault text fault × (code ≡ double_code fault)
+
+-- a text that isn't written as the pattern says, or whose mantissa is no number, or that writes a text which is no double
+abbrev pub MisreadsFormatted : NumberFormat → List ℕ → Code → Type 0
+MisreadsFormatted f text code =
+    ((fits_pattern f (chars text) ≡ false) × (code ≡ BadDouble))
+    ⊎ (((fits_pattern f (chars text) ≡ true) × (fault : NumberFault) × HasNoPlain f text fault × (code ≡ number_code BadDouble fault))
+    ⊎ ((fits_pattern f (chars text) ≡ true) × (plain : List ℕ) × IsPlainOf f text plain × MisreadsPlain plain code))
+
+abbrev pub MisreadsDouble : Option Format → List ℕ → Code → Type 0
+MisreadsDouble (Some (formats.Number f)) text code = MisreadsFormatted f text code
+MisreadsDouble _ text code = MisreadsPlain text code
 
 abbrev pub MisreadsText : TextType → Option Format → List ℕ → Code → Type 0
 MisreadsText t format text code = (text_value t format text ≡ None) × (code ≡ text_code t)
@@ -116,7 +137,7 @@ abbrev pub MisreadAs : Simple → Option Format → List ℕ → Code → Type 0
 MisreadAs simples.Text format text code = MisreadsString format text code
 MisreadAs simples.Uri format text code = MisreadsString format text code
 MisreadAs (simples.Other t) format text code = MisreadsText t format text code
-MisreadAs (simples.Floating t) format text code = MisreadsDouble text code
+MisreadAs (simples.Floating t) format text code = MisreadsDouble format text code
 MisreadAs simples.Truth format text code = ((b : Bool) → ¬ SpellsTruth format text b) × (code ≡ BadBoolean)
 MisreadAs simples.Whole format text code = MisreadsNumber BadInteger (whole_rules format) format text code
 MisreadAs (simples.Derived w) format text code =

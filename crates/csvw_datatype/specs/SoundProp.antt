@@ -36,6 +36,7 @@ format-prop simples.Truth (Some (formats.Truth f)) = hlevel props
 format-prop simples.Whole (Some (formats.Number f)) = lawful-prop _
 format-prop (simples.Derived w) (Some (formats.Number f)) = lawful-prop _
 format-prop simples.Decimal (Some (formats.Number f)) = lawful-prop _
+format-prop (simples.Floating t) (Some (formats.Number f)) = lawful-prop _
 format-prop simples.Day (Some (formats.Day f)) = Unit-prop
 format-prop simples.Moment (Some (formats.Moment f)) = Unit-prop
 format-prop (simples.Other types.Time) (Some (formats.Time f)) = Unit-prop

@@ -76,9 +76,10 @@ fn is_format_of(simple: Simple, format: &Option<Format>) -> bool
         (_, None) => true,
         (_, Some(Format::Expression(_))) => simple.takes_expression(),
         (Simple::Truth, Some(Format::Truth(texts))) => texts.is_lawful(),
-        (Simple::Whole | Simple::Derived(_) | Simple::Decimal, Some(Format::Number(format))) => {
-            format.rules().is_lawful()
-        }
+        (
+            Simple::Whole | Simple::Derived(_) | Simple::Decimal | Simple::Floating(_),
+            Some(Format::Number(format)),
+        ) => format.rules().is_lawful(),
         (Simple::Day, Some(Format::Day(_))) => true,
         (Simple::Moment, Some(Format::Moment(_))) => true,
         (Simple::Other(TextType::Time), Some(Format::Time(_))) => true,

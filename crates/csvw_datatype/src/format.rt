@@ -34,7 +34,7 @@ pub struct NumberFormat {
 pub enum Format {
     /// The format of booleans.
     Truth(TruthFormat),
-    /// The format of integers, derived ones too, and of decimals.
+    /// The format of integers, derived ones too, of decimals, and of numbers with an exponent.
     Number(NumberFormat),
     /// The format of dates.
     Day(DateFormat),

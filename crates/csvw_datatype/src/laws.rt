@@ -42,7 +42,9 @@ pub fn value_or_code()
 pub fn one_code()
     ensures { (s : Simple) (f : Option Format) (text : List ℕ) (c d : Code) → IsFormatOf s f
         → MisreadAs s f text c → MisreadAs s f text d → c ≡ d }
-{}
+{
+    one_number();
+}
 
 /// A law: each value that a text is has a lexical form, and under an ordered type it can be a bound.
 pub fn values_of_texts()

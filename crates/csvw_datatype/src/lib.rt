@@ -27,6 +27,7 @@
 mod bound;
 mod check;
 mod datatype;
+mod double_format;
 mod facets;
 mod format;
 mod laws;

@@ -4,13 +4,14 @@ ghost use Rattle.csvw_datatype_core.specs.Numbers.{IsLawful};
 ghost use Rattle.csvw_datatype.specs.declared.simple.Simple.TheVariants as simples;
 ghost use Rattle.std.specs.Str.{chars};
 ghost use Rattle.csvw_fault.specs.declared.fault.Code.TheVariants.{BadInteger};
-ghost use Rattle.csvw_datatype.specs.Formats.{fits_format};
-ghost use Rattle.csvw_datatype.specs.Reads.{Reads, ReadsNumberAs, MisreadsNumber, Misread, whole_rules, decimal_rules, date_format, moment_format, number_code, double_code, ReadsAs, MisreadAs, ReadsDouble, MisreadsDouble, ReadsText, MisreadsText, ReadsString, MisreadsString};
+ghost use Rattle.csvw_datatype.specs.Formats.{fits_format, format_rules};
+ghost use Rattle.csvw_datatype.specs.Reads.{Reads, ReadsNumberAs, MisreadsNumber, Misread, whole_rules, decimal_rules, date_format, moment_format, number_code, double_code, ReadsAs, MisreadAs, ReadsDouble, MisreadsDouble, ReadsPlain, MisreadsPlain, ReadsFormatted, MisreadsFormatted, ReadsText, MisreadsText, ReadsString, MisreadsString};
 ghost use Rattle.csvw_datatype.specs.Sound.{IsSound};
 ghost use Rattle.csvw_datatype.specs.Lexical.{IsWritable};
 
 use crate::datatype::Datatype;
-use crate::format::{Format, is_described};
+use crate::double_format::plain_double;
+use crate::format::{Format, NumberFormat, is_described};
 use crate::laws::values_of_texts;
 use crate::simple::{Simple, TextType, Width};
 use crate::text_value::{text_code, text_value};
@@ -31,8 +32,8 @@ impl Datatype {
     ///
     /// - `BadBoolean`, `BadInteger`, `BadDecimal`, `BadDate`, `BadDateTime`, `BadDouble`, `BadTime` or `BadText` if the text
     ///   isn't written as a value of the type, or not as the pattern of numbers or the regular expression says.
-    /// - `NumberTooLong` if a number is 10^20 or more in size or not a whole multiple of 10^-18, or if the exponent of a
-    ///   double has more than 18 digits.
+    /// - `NumberTooLong` if an integer or a decimal is 10^20 or more in size or not a whole multiple of 10^-18, or if the
+    ///   exponent of a double has more than 18 digits. In a format the digits of a double have the limits of a decimal.
     /// - Otherwise `OutOfRange` if the number is outside its derived type.
     ///
     /// Returns `AllocError` if memory runs out, or if the automaton of the expression is too large.
@@ -69,7 +70,7 @@ impl Datatype {
             Simple::Decimal => Ok(read_decimal(format, text)),
             Simple::Day => Ok(read_day(format, text)),
             Simple::Moment => Ok(read_date_time(format, text)),
-            Simple::Floating(_) => read_double(expressions.alloc(), text),
+            Simple::Floating(_) => read_double(expressions.alloc(), format, text),
         }
     }
 }
@@ -89,9 +90,49 @@ fn read_string(
     }
 }
 
-/// Reads a number with an exponent. Its value is its canonical text.
-fn read_double(alloc: Global, text: &str) -> Result<Result<Value, Code>, AllocError>
-    ensures { IfOk result (λ answer. MatchResult answer (ReadsDouble text.now) (MisreadsDouble text.now)) }
+/// Reads a number with an exponent in a format.
+fn read_double(
+    alloc: Global,
+    format: &Option<Format>,
+    text: &str,
+) -> Result<Result<Value, Code>, AllocError>
+    requires { IsLawful (decimal_rules format.now) }
+    ensures { IfOk result (λ answer. MatchResult answer (ReadsDouble format.now text.now) (MisreadsDouble format.now text.now)) }
+{
+    match format {
+        Some(Format::Number(format)) => read_formatted_double(alloc, format, text),
+        Some(
+            Format::Truth(_)
+            | Format::Day(_)
+            | Format::Moment(_)
+            | Format::Time(_)
+            | Format::Expression(_),
+        )
+        | None => read_plain_double(alloc, text),
+    }
+}
+
+/// Reads a number with an exponent that is written with the characters of a format, and as its pattern says.
+fn read_formatted_double(
+    alloc: Global,
+    format: &NumberFormat,
+    text: &str,
+) -> Result<Result<Value, Code>, AllocError>
+    requires { IsLawful (format_rules format.now) }
+    ensures { IfOk result (λ answer. MatchResult answer (ReadsFormatted format.now text.now) (MisreadsFormatted format.now text.now)) }
+{
+    if !format.fits(text) {
+        return Ok(Err(Code::BadDouble));
+    }
+    match plain_double(alloc, format, text)? {
+        Ok(plain) => read_plain_double(alloc, plain.as_str()),
+        Err(fault) => Ok(Err(number_code(Code::BadDouble, fault))),
+    }
+}
+
+/// Reads a number with an exponent as XML Schema writes it. Its value is its canonical text.
+fn read_plain_double(alloc: Global, text: &str) -> Result<Result<Value, Code>, AllocError>
+    ensures { IfOk result (λ answer. MatchResult answer (ReadsPlain text.now) (MisreadsPlain text.now)) }
 {
     match canonical_double(alloc, text)? {
         Ok(form) => Ok(Ok(Value::Text(form))),

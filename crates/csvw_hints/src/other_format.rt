@@ -1,7 +1,7 @@
 //! The format in which a text is a value, if it is none of its datatype as the document says.
 
 use crate::other_date::{push_date, push_moment};
-use crate::other_number::push_number;
+use crate::other_number::{push_decimal, push_double, push_integer};
 use crate::tables::{TableAt, declared};
 use csvw_datatype::Simple;
 use csvw_text::{Code, Fault, collapse};
@@ -39,7 +39,12 @@ fn push_truth(below: &mut String, text: &str) -> Result<(), AllocError> {
 fn is_of_text(code: Code) -> bool {
     matches!(
         code,
-        Code::BadBoolean | Code::BadInteger | Code::BadDecimal | Code::BadDate | Code::BadDateTime
+        Code::BadBoolean
+            | Code::BadInteger
+            | Code::BadDecimal
+            | Code::BadDouble
+            | Code::BadDate
+            | Code::BadDateTime
     )
 }
 
@@ -63,11 +68,11 @@ pub fn push_other_format(
     let simple = column.properties.datatype.get().simple;
     match simple {
         Simple::Truth => push_truth(below, text),
-        Simple::Whole | Simple::Derived(_) | Simple::Decimal => {
-            push_number(below, alloc, text, simple)
-        }
+        Simple::Whole | Simple::Derived(_) => push_integer(below, alloc, text),
+        Simple::Decimal => push_decimal(below, alloc, text),
+        Simple::Floating(_) => push_double(below, alloc, text),
         Simple::Day => push_date(below, text),
         Simple::Moment => push_moment(below, alloc, text),
-        Simple::Text | Simple::Uri | Simple::Floating(_) | Simple::Other(_) => Ok(()),
+        Simple::Text | Simple::Uri | Simple::Other(_) => Ok(()),
     }
 }

@@ -1,6 +1,5 @@
 //! The formats and the datatypes by which a text is a number, if it is none of its column's datatype.
 
-use csvw_datatype::Simple;
 use csvw_datatype_core::{NumberRules, read_number};
 use csvw_double::canonical_double;
 use std::alloc::{AllocError, Global};
@@ -117,16 +116,11 @@ fn push_number_formats(
     Ok(is_one)
 }
 
-/// Adds that a text is a number without the format, or the other datatype of numbers of which it is a value.
-fn push_other_number(
-    below: &mut String,
-    alloc: Global,
-    text: &str,
-    decimal_char: Option<char>,
-) -> Result<(), AllocError> {
-    if is_number(text, decimal_char, None) {
-        return below.push_str("    the text is a number without the `format`\n");
-    }
+/// A text that is a number once the format is left out.
+const WITHOUT_FORMAT: &str = "    the text is a number without the `format`\n";
+
+/// Adds that a text is a decimal or a double, if it is one. The column is of integers or decimals.
+fn push_other_number(below: &mut String, alloc: Global, text: &str) -> Result<(), AllocError> {
     if is_number(text, Some('.'), None) {
         return below.push_str("    the text is a value of the datatype decimal\n");
     }
@@ -138,21 +132,43 @@ fn push_other_number(
     }
 }
 
-/// Adds the formats by which a text is a number, or the datatype of which it is a value.
-pub(crate) fn push_number(
+/// Adds the formats by which a text is an integer, or the datatype of which it is a value.
+pub(crate) fn push_integer(
     below: &mut String,
     alloc: Global,
     text: &str,
-    simple: Simple,
 ) -> Result<(), AllocError> {
-    let (decimal_char, characters) = if simple == Simple::Decimal {
-        (Some('.'), DECIMALS.as_slice())
-    } else {
-        (None, INTEGERS.as_slice())
-    };
-    if push_number_formats(below, text, characters)? {
-        Ok(())
-    } else {
-        push_other_number(below, alloc, text, decimal_char)
+    if push_number_formats(below, text, &INTEGERS)? {
+        return Ok(());
+    }
+    if is_number(text, None, None) {
+        return below.push_str(WITHOUT_FORMAT);
+    }
+    push_other_number(below, alloc, text)
+}
+
+/// Adds the formats by which a text is a decimal, or the datatype of which it is a value.
+pub(crate) fn push_decimal(
+    below: &mut String,
+    alloc: Global,
+    text: &str,
+) -> Result<(), AllocError> {
+    if push_number_formats(below, text, &DECIMALS)? {
+        return Ok(());
+    }
+    if is_number(text, Some('.'), None) {
+        return below.push_str(WITHOUT_FORMAT);
+    }
+    push_other_number(below, alloc, text)
+}
+
+/// Adds the formats by which a text is a double, or that it is one without the format.
+pub(crate) fn push_double(below: &mut String, alloc: Global, text: &str) -> Result<(), AllocError> {
+    if push_number_formats(below, text, &DECIMALS)? {
+        return Ok(());
+    }
+    match canonical_double(alloc, text)? {
+        Ok(_) => below.push_str(WITHOUT_FORMAT),
+        Err(_) => Ok(()),
     }
 }

@@ -15,6 +15,7 @@ use Rattle.csvw_datatype.specs.Strings.{takes_expression}
 use Rattle.csvw_datatype.specs.declared.simple.Simple.{Simple}
 use Rattle.csvw_datatype.specs.declared.simple.Simple.TheVariants as simples
 use Rattle.csvw_datatype.specs.declared.simple.TextType.TheVariants as types
+use Rattle.csvw_datatype.specs.declared.simple.Floating.{Floating}
 use Rattle.csvw_datatype.specs.declared.format.NumberFormat.{NumberFormat}
 use Rattle.csvw_datatype.specs.declared.format.Format.{Format}
 use Rattle.csvw_datatype.specs.declared.format.Format.TheVariants as formats
@@ -217,6 +218,15 @@ as_whole (Some (formats.Moment f)) h = absurd h
 as_whole (Some (formats.Time f)) h = absurd h
 as_whole (Some (formats.Expression e)) h = h
 
+as_floating : (t : Floating) (o : Option Format) → IsOfNumbers o → IsFormatOf (simples.Floating t) o
+as_floating t None h = tt
+as_floating t (Some (formats.Number f)) h = h
+as_floating t (Some (formats.Truth f)) h = absurd h
+as_floating t (Some (formats.Day f)) h = absurd h
+as_floating t (Some (formats.Moment f)) h = absurd h
+as_floating t (Some (formats.Time f)) h = absurd h
+as_floating t (Some (formats.Expression e)) h = h
+
 -- ---- expressions
 
 found_fits : (s : Simple) → takes_expression s ≡ true → (o : Option (List ℕ)) → IsFormatOf s (expression_found o).format
@@ -244,7 +254,7 @@ format_sound profile (simples.Other types.Json) place at d = expression_sound (s
 format_sound profile (simples.Other types.Time) place at d = tt
 format_sound profile (simples.Other (types.DateTime z)) place at d = tt
 format_sound profile (simples.Other (types.Part p)) place at d = tt
-format_sound profile (simples.Floating t) place at d = tt
+format_sound profile (simples.Floating t) place at d = as_floating t (number_format profile place at d).value.format (number_sound profile place at d)
 format_sound profile simples.Truth place at d = truth_sound at d
 format_sound profile simples.Whole place at d = as_whole (number_format profile place at d).value.format (number_sound profile place at d)
 format_sound profile (simples.Derived w) place at d = as_whole (number_format profile place at d).value.format (number_sound profile place at d)

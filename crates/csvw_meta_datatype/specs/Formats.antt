@@ -67,12 +67,12 @@ format_of_texts profile (types.DateTime zone) at d = faulty NotSupported at no_f
 format_of_texts profile (types.Part part) at d = faulty NotSupported at no_format
 format_of_texts profile _ at d = expression_format profile at d
 
--- the format of a type; no format of numbers with an exponent is supported
+-- the format of a type
 unfoldable pub format : Profile → Simple → Place → List ℕ → Data → Read FormatFound
 format profile simples.Text place at d = expression_format profile at d
 format profile simples.Uri place at d = expression_format profile at d
 format profile (simples.Other t) place at d = format_of_texts profile t at d
-format profile (simples.Floating t) place at d = faulty NotSupported at no_format
+format profile (simples.Floating t) place at d = number_format profile place at d
 format profile simples.Truth place at d = under (λ f. found (formats.Truth f)) (truth_format at d)
 format profile simples.Whole place at d = number_format profile place at d
 format profile (simples.Derived w) place at d = number_format profile place at d

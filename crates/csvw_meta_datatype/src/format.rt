@@ -27,9 +27,9 @@ pub struct FormatFound {
 
 /// Reads the format of a datatype.
 ///
-/// It is `NotSupported` for a number with an exponent and for a part of a date. In the profile core it is `NotSupported` for
-/// a string, and so is a text for a number. A pattern of a date, a moment or a time of day that is not supported is
-/// `NotSupported`, and so is one of a number with a character that isn't.
+/// It is `NotSupported` for a part of a date. In the profile core it is `NotSupported` for a string, and so is a text for a
+/// number. A pattern of a date, a moment or a time of day that is not supported is `NotSupported`, and so is one of a number
+/// with a character that isn't.
 ///
 /// It is `BadDatatype` if a character or a pattern of a number is wrong, or the pattern of a boolean. In the profile w3c so
 /// is a text for a string that is no regular expression.
@@ -130,9 +130,8 @@ impl Reader for FormatReader {
     fn read(&self, part: &Part) -> Result<FormatFound, Refusal> {
         let format = match self.simple {
             Simple::Text | Simple::Uri => return read_expression(self.profile, part),
-            Simple::Floating(_) => return Err(part.refused(MetaCode::NotSupported)),
             Simple::Other(text_type) => return read_format_of_texts(self.profile, text_type, part),
-            Simple::Whole | Simple::Derived(_) | Simple::Decimal => {
+            Simple::Whole | Simple::Derived(_) | Simple::Decimal | Simple::Floating(_) => {
                 return read_number_format(self.profile, self.place, part);
             }
             Simple::Truth => Format::Truth(TruthPattern.read(part)?),

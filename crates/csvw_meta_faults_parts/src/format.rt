@@ -132,9 +132,8 @@ fn find_format_here(
     };
     match simple {
         Simple::Text | Simple::Uri => find_expression(profile, part, faults),
-        Simple::Floating(_) => add_fault(part, MetaCode::NotSupported, faults),
         Simple::Other(text_type) => find_format_of_texts(profile, text_type, part, faults),
-        Simple::Whole | Simple::Derived(_) | Simple::Decimal => {
+        Simple::Whole | Simple::Derived(_) | Simple::Decimal | Simple::Floating(_) => {
             find_number_format(profile, part, faults)
         }
         Simple::Truth => find_sole(part, &truth, faults),

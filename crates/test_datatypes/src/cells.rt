@@ -2,10 +2,11 @@
 use crate::cells::Cell::{Misread, Read};
 use crate::facets::FACETS;
 use crate::ranges::{DATES, RANGES};
+use csvw_meta_core::Profile;
 use csvw_triples_core::Mode;
 use std::alloc::{AllocError, Global};
 use std::test::Fail;
-use test_runs::{Ran, run_over};
+use test_runs::{Ran, run_in_profile, run_over};
 
 /// The text of a cell of a column with a datatype.
 pub(crate) enum Cell {
@@ -301,7 +302,11 @@ pub(crate) fn text_of(alloc: Global, cells: &[Cell]) -> Result<String, AllocErro
 }
 
 fn push_row(text: &mut String, cell: &Cell) -> Result<(), AllocError> {
+    let is_bare = cell.text().contains(',') && !cell.text().starts_with('"');
+    let quote = if is_bare { "\"" } else { "" };
+    text.push_str(quote)?;
     text.push_str(cell.text())?;
+    text.push_str(quote)?;
     text.push('\n')
 }
 
@@ -310,6 +315,14 @@ pub(crate) fn document_of(alloc: Global, datatype: &str) -> Result<String, Alloc
     format!(in alloc;
         "{{\"@context\":\"http://www.w3.org/ns/csvw\",\"url\":\"p.csv\",\"tableSchema\":{{\"columns\":[{{\"name\":\"id\",\"datatype\":{datatype}}}]}}}}"
     )
+}
+
+/// Whether a run over the cells in the profile w3c leaves their graph and their report.
+pub(crate) fn is_read_in_w3c(alloc: Global, case: &Case) -> Result<bool, AllocError> {
+    let meta = document_of(alloc, case.datatype)?;
+    let text = text_of(alloc, case.cells)?;
+    let ran = run_in_profile(alloc, Profile::W3c, meta.as_str(), text.as_str())?;
+    is_run_of(alloc, &ran, case)
 }
 
 /// Returns what a run over the cells leaves.

@@ -1,11 +1,9 @@
 //! Tests of the bounds of `number`, `double` and `float` in the profile w3c (Metadata Vocabulary for Tabular Data, section 5.11.2).
 use crate::cells::Cell::{Breaks, Misread, Read};
-use crate::cells::{Case, document_of, is_run_of, text_of};
+use crate::cells::{Case, is_read_in_w3c};
 use crate::profiles::{Refused, is_refused};
-use csvw_meta_core::{MetaCode, Profile};
-use std::alloc::{AllocError, Global};
+use csvw_meta_core::MetaCode;
 use std::test::Fail;
-use test_runs::run_in_profile;
 
 static BOUNDED: [Case; 9] = [
     Case {
@@ -148,18 +146,10 @@ static REFUSED: [Refused; 9] = [
     },
 ];
 
-/// Whether a run over the cells in the profile w3c leaves their graph and their report.
-fn gives(alloc: Global, case: &Case) -> Result<bool, AllocError> {
-    let meta = document_of(alloc, case.datatype)?;
-    let text = text_of(alloc, case.cells)?;
-    let ran = run_in_profile(alloc, Profile::W3c, meta.as_str(), text.as_str())?;
-    is_run_of(alloc, &ran, case)
-}
-
 #[test]
 fn doubles_have_bounds(rt: HostRuntime) -> Result<(), Fail> {
     for case in &BOUNDED {
-        assert!(rt; gives(rt.alloc(), case)?, "{}", case.datatype);
+        assert!(rt; is_read_in_w3c(rt.alloc(), case)?, "{}", case.datatype);
     }
     Ok(())
 }

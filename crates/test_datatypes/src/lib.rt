@@ -13,6 +13,8 @@ mod documents;
 #[cfg(test)]
 mod double_bounds;
 #[cfg(test)]
+mod double_formats;
+#[cfg(test)]
 mod events;
 #[cfg(test)]
 mod examples;

@@ -298,7 +298,7 @@ static REFUSED: [Refused; 19] = [
         pointer: "/minimum",
     },
     Refused {
-        datatype: r#"{"base":"number","format":{"decimalChar":","}}"#,
+        datatype: r#"{"base":"number","format":"0.0E0"}"#,
         code: MetaCode::NotSupported,
         pointer: "/format",
     },
