@@ -1,5 +1,5 @@
 -- The datatypes of which a text is a value.
-use Rattle.std.proofs.Common.{◌≡◌, ℕ, ◌&&◌, Bool, true, false, cond, List, [], ◌∷◌, Some, None, Result, Ok, Err, refl, sym, ap, MatchResult}
+use Rattle.std.proofs.Common.{◌≡◌, ℕ, ◌&&◌, Bool, true, false, cond, List, [], ◌∷◌, refl, ap}
 use Rattle.std.specs.List.{list_all}
 use Rattle.csvw_draft.specs.declared.kind.Kind.{Kind}
 use Rattle.csvw_draft.specs.Kinds.{reads, readers}

@@ -1,3 +1,4 @@
 mod NameLemmas
 mod KindLemmas
+mod GroupingLemmas
 mod Sending

@@ -18,6 +18,10 @@ use Rattle.csvw_meta_core.specs.declared.profile.Profile.TheVariants.{Core, W3c}
 use Rattle.csvw_meta_datatype.specs.Patterns.{date_formats}
 use Rattle.csvw_draft.specs.declared.kind.Kind.{Kind}
 use Rattle.csvw_draft.specs.declared.kind.Kind.TheVariants as kinds
+use Rattle.csvw_draft.specs.declared.grouping.GroupChar.TheVariants.{Space, NoBreakSpace, NarrowNoBreakSpace, Apostrophe}
+use Rattle.csvw_draft.specs.declared.grouping.Fraction.{Fraction}
+use Rattle.csvw_draft.specs.declared.grouping.Fraction.TheVariants as fractions
+use Rattle.csvw_draft.specs.Groupings.{grouped_value}
 
 -- numbers with this decimal character, or without one, and without a group character
 abbrev pub rules_with : Option ℕ → NumberRules
@@ -29,6 +33,7 @@ reads kinds.Truth text = bytes_eq text (codes "true") || bytes_eq text (codes "f
 reads kinds.Whole text = is_some (number_value (rules_with None) (chars text))
 reads kinds.Decimal text = is_some (number_value (rules_with (Some 46)) (chars text))
 reads kinds.DecimalComma text = is_some (number_value (rules_with (Some 44)) (chars text))
+reads (kinds.Grouped g) text = is_some (grouped_value g text)
 reads (kinds.Day format) text = is_some (date_value format text)
 reads (kinds.Moment format) text = is_some (moment_value format text)
 reads kinds.Double text = is_some (double_form text)
@@ -44,10 +49,19 @@ readers kinds text = filter (λ kind. reads kind text) kinds
 abbrev pub day_kinds : List DateFormat → List Kind
 day_kinds dates = map (λ date. kinds.Day date) dates
 
+-- numbers whose fraction is written so, with each group character
+abbrev pub grouped_kinds : Fraction → List Kind
+grouped_kinds fraction =
+    kinds.Grouped (record { group_char = Space; fraction = fraction }) ∷ kinds.Grouped (record { group_char = NoBreakSpace; fraction = fraction })
+    ∷ kinds.Grouped (record { group_char = NarrowNoBreakSpace; fraction = fraction })
+    ∷ kinds.Grouped (record { group_char = Apostrophe; fraction = fraction }) ∷ []
+
 -- the datatypes besides `string` that each document may use, from the narrowest on
 abbrev pub core_kinds : List Kind
 core_kinds =
-    (kinds.Truth ∷ kinds.Whole ∷ kinds.Decimal ∷ []) ++ (day_kinds date_formats ++ (kinds.Moment Seconds ∷ kinds.Moment Minutes ∷ []))
+    (kinds.Truth ∷ kinds.Whole ∷ kinds.Decimal ∷ [])
+    ++ (grouped_kinds fractions.None
+    ++ (grouped_kinds fractions.Point ++ (day_kinds date_formats ++ (kinds.Moment Seconds ∷ kinds.Moment Minutes ∷ []))))
 
 -- moments with a space, for each format of dates
 abbrev pub spaced_kinds : TimeFormat → List DateFormat → List Kind
@@ -61,7 +75,7 @@ w3c_kinds =
 
 -- decimals may have a comma where `;` is the delimiter
 abbrev pub comma_kinds : ℕ → List Kind
-comma_kinds delimiter = if delimiter == 59 then kinds.DecimalComma ∷ [] else []
+comma_kinds delimiter = if delimiter == 59 then kinds.DecimalComma ∷ grouped_kinds fractions.Comma else []
 
 -- the datatypes besides `string` that a draft looks for in a file with this delimiter
 abbrev pub kinds_of : ℕ → List Kind
@@ -73,6 +87,7 @@ is_core kinds.Truth = true
 is_core kinds.Whole = true
 is_core kinds.Decimal = true
 is_core kinds.DecimalComma = true
+is_core (kinds.Grouped g) = true
 is_core (kinds.Day format) = true
 is_core (kinds.Moment Seconds) = true
 is_core (kinds.Moment Minutes) = true

@@ -1,3 +1,4 @@
 pub mod Drafts
+pub mod Groupings
 pub mod Kinds
 pub mod Names

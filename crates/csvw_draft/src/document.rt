@@ -49,7 +49,10 @@ struct DialectPart {
 #[derive(Drop, Serialize)]
 #[serde(rename_all = "camelCase")]
 struct NumberFormatPart {
-    decimal_char: char,
+    #[serde(skip_serializing_if = "Option::is_none")]
+    decimal_char: Option<char>,
+    #[serde(skip_serializing_if = "Option::is_none")]
+    group_char: Option<char>,
 }
 
 /// A datatype.
@@ -192,7 +195,17 @@ fn datatype_part(alloc: Global, kind: Kind) -> Result<Option<DatatypePart>, Allo
         Kind::Text => return Ok(None),
         Kind::DecimalComma => DatatypePart::WithNumberFormat {
             base,
-            format: NumberFormatPart { decimal_char: ',' },
+            format: NumberFormatPart {
+                decimal_char: Some(','),
+                group_char: None,
+            },
+        },
+        Kind::Grouped(grouping) => DatatypePart::WithNumberFormat {
+            base,
+            format: NumberFormatPart {
+                decimal_char: grouping.fraction.decimal_char().filter(|c| *c != '.'),
+                group_char: Some(grouping.group_char.char()),
+            },
         },
         Kind::Day(DateFormat::YearFirst)
         | Kind::Moment(MomentFormat::Seconds)

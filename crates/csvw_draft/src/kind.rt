@@ -1,7 +1,9 @@
 //! The datatypes that a draft gives to columns.
 ghost use Rattle.std.specs.Prelude.{◌≡◌, ◌++◌, IfOk, OnOk};
-ghost use Rattle.csvw_draft.specs.Kinds.{core_kinds, day_kinds, kinds_of, spaced_kinds, w3c_kinds};
+ghost use Rattle.csvw_draft.specs.declared.kind.Kind.TheVariants as kinds;
+ghost use Rattle.csvw_draft.specs.Kinds.{core_kinds, day_kinds, grouped_kinds, kinds_of, spaced_kinds, w3c_kinds};
 
+use crate::grouping::{Fraction, GroupChar, Grouping};
 use crate::value::{date_time_as_value, truth_of};
 use csvw_datatype::{Value, day_of, moment_of, number_of};
 use csvw_datatype_core::{
@@ -45,6 +47,8 @@ pub enum Kind {
     Decimal,
     /// `decimal` with a comma before the fraction.
     DecimalComma,
+    /// `integer` or `decimal` with a group character before each three digits.
+    Grouped(Grouping),
     /// `date` in a format.
     Day(DateFormat),
     /// `dateTime` in a format.
@@ -57,6 +61,27 @@ pub enum Kind {
     MomentWithZone,
     /// `string`.
     Text,
+}
+
+/// Adds numbers whose fraction is written so, with each group character. Returns `AllocError` if memory runs out.
+fn push_grouped(kinds: &mut Vec<Kind>, fraction: Fraction) -> Result<(), AllocError>
+    ensures { OnOk result (kinds.new.items ≡ kinds.old.items ++ grouped_kinds fraction) }
+{
+    kinds.push(grouped(GroupChar::Space, fraction))?;
+    kinds.push(grouped(GroupChar::NoBreakSpace, fraction))?;
+    kinds.push(grouped(GroupChar::NarrowNoBreakSpace, fraction))?;
+    kinds.push(grouped(GroupChar::Apostrophe, fraction))?;
+    Ok(())
+}
+
+/// Returns the datatype of numbers with a group character, whose fraction is written so.
+fn grouped(group_char: GroupChar, fraction: Fraction) -> Kind
+    ensures { result ≡ kinds.Grouped (record { group_char = group_char; fraction = fraction }) }
+{
+    Kind::Grouped(Grouping {
+        group_char,
+        fraction,
+    })
 }
 
 /// Adds `date` in each of some formats. Returns `AllocError` if memory runs out.
@@ -105,6 +130,8 @@ fn core_kinds(alloc: Global) -> Result<Vec<Kind>, AllocError>
     kinds.push(Kind::Truth)?;
     kinds.push(Kind::Whole)?;
     kinds.push(Kind::Decimal)?;
+    push_grouped(&mut kinds, Fraction::None)?;
+    push_grouped(&mut kinds, Fraction::Point)?;
     push_days(&mut kinds, &DATE_FORMATS)?;
     kinds.push(Kind::Moment(MomentFormat::Seconds))?;
     kinds.push(Kind::Moment(MomentFormat::Minutes))?;
@@ -120,6 +147,7 @@ pub(crate) fn kinds_of(alloc: Global, delimiter: char) -> Result<Vec<Kind>, Allo
     let mut kinds = core_kinds(alloc)?;
     if delimiter == ';' {
         kinds.push(Kind::DecimalComma)?;
+        push_grouped(&mut kinds, Fraction::Comma)?;
     }
     push_w3c(&mut kinds)?;
     Ok(kinds)
@@ -134,7 +162,8 @@ impl Kind {
             Kind::Text => "string",
             Kind::Truth => "boolean",
             Kind::Whole => "integer",
-            Kind::Decimal | Kind::DecimalComma => "decimal",
+            Kind::Grouped(grouping) if grouping.fraction == Fraction::None => "integer",
+            Kind::Decimal | Kind::DecimalComma | Kind::Grouped(_) => "decimal",
             Kind::Day(_) => "date",
             Kind::Moment(_) | Kind::MomentWithZone => "dateTime",
             Kind::Double => "double",
@@ -155,6 +184,7 @@ impl Kind {
             | Kind::Whole
             | Kind::Decimal
             | Kind::DecimalComma
+            | Kind::Grouped(_)
             | Kind::Day(_)
             | Kind::Moment(MomentFormat::Seconds | MomentFormat::Minutes)
             | Kind::Text => true,
@@ -180,6 +210,7 @@ impl Kind {
             Kind::Whole => number_of(&WHOLE, text).is_some(),
             Kind::Decimal => number_of(&DECIMAL, text).is_some(),
             Kind::DecimalComma => number_of(&DECIMAL_COMMA, text).is_some(),
+            Kind::Grouped(grouping) => grouping.value(text).is_some(),
             Kind::Day(format) => day_of(format, text).is_some(),
             Kind::Moment(format) => moment_of(format, text).is_some(),
             Kind::Double => double_of(alloc, text)?.is_some(),
@@ -206,6 +237,7 @@ impl Kind {
             Kind::Whole => number_of(&WHOLE, text).map(Value::Number),
             Kind::Decimal => number_of(&DECIMAL, text).map(Value::Number),
             Kind::DecimalComma => number_of(&DECIMAL_COMMA, text).map(Value::Number),
+            Kind::Grouped(grouping) => grouping.value(text).map(Value::Number),
             Kind::Day(format) => day_of(format, text).map(Value::Day),
             Kind::Moment(format) => moment_of(format, text).map(Value::Moment),
             Kind::Double => double_of(alloc, text)?.map(Value::Text),

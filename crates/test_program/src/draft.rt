@@ -172,7 +172,7 @@ macro_rules! one {
     };
 }
 
-static DOCUMENTS: [Case; 17] = [
+static DOCUMENTS: [Case; 19] = [
     one!(
         "data/types.csv",
         "id,First Name,n,when,ok\n1,Ann,1.5,01/02/2023,true\n2,,2,13/02/2023,false\n",
@@ -277,6 +277,24 @@ static DOCUMENTS: [Case; 17] = [
             {"name":"b","titles":"b","datatype":{"base":"decimal","format":{"decimalChar":","}},"required":true},
             {"name":"c","titles":"c"}],
             "primaryKey":"a"}}"#
+    ),
+    one!(
+        "grouped.csv",
+        "n,d,m,s\n63 110,1'234.5,950,1 2\n950,0.25,1234,3\n1 000 000,12,1 234,4\n",
+        r#"{"@context":"http://www.w3.org/ns/csvw","url":"grouped.csv","tableSchema":{"columns":[
+            {"name":"n","titles":"n","datatype":{"base":"integer","format":{"groupChar":" "}},"required":true},
+            {"name":"d","titles":"d","datatype":{"base":"decimal","format":{"groupChar":"'"}},"required":true},
+            {"name":"m","titles":"m","required":true},
+            {"name":"s","titles":"s","required":true}],
+            "primaryKey":"n"}}"#
+    ),
+    one!(
+        "narrow.csv",
+        "a;b\n1\u{202F}234,5;1\u{A0}234\n-2,25;12\n",
+        "{\"@context\":\"http://www.w3.org/ns/csvw\",\"url\":\"narrow.csv\",\"dialect\":{\"delimiter\":\";\"},\"tableSchema\":{\"columns\":[
+            {\"name\":\"a\",\"titles\":\"a\",\"datatype\":{\"base\":\"decimal\",\"format\":{\"decimalChar\":\",\",\"groupChar\":\"\u{202F}\"}},\"required\":true},
+            {\"name\":\"b\",\"titles\":\"b\",\"datatype\":{\"base\":\"integer\",\"format\":{\"groupChar\":\"\u{A0}\"}},\"required\":true}],
+            \"primaryKey\":\"a\"}}"
     ),
     one!(
         "quoted.csv",
