@@ -10,3 +10,5 @@ mod EqualLemmas
 mod OrderLemmas
 mod PlaceLemmas
 mod FaultLemmas
+mod QuickLemmas
+mod PlainOrderLemmas

@@ -155,24 +155,24 @@ is_int_cmp p q = go (int_lt p q) (int_lt q p) refl refl
     go false false h k = omega (arith, ints, h, k)
 
 -- a difference is by how much it is above 0, or below
-split : (z w : ℤ) → z +ℤ w ≡ pos 0 → z ≡ pos (excess z) -ℤ pos (excess w)
+pub split : (z w : ℤ) → z +ℤ w ≡ pos 0 → z ≡ pos (excess z) -ℤ pos (excess w)
 split (pos m) (pos n) is = omega (arith, ints, is)
 split (pos m) (negsuc n) is = omega (arith, ints, is)
 split (negsuc m) (pos n) is = omega (arith, ints, is)
 split (negsuc m) (negsuc n) is = absurd (omega (arith, ints, is))
 
 -- one of the two is 0
-one_none : (z w : ℤ) → z +ℤ w ≡ pos 0 → (excess z ≡ 0) ⊎ (excess w ≡ 0)
+pub one_none : (z w : ℤ) → z +ℤ w ≡ pos 0 → (excess z ≡ 0) ⊎ (excess w ≡ 0)
 one_none (pos m) (pos n) is = inr (omega (arith, ints, is))
 one_none (pos m) (negsuc n) is = inr refl
 one_none (negsuc m) w is = inl refl
 
-at_most : (a b d e : ℕ) → a + d ≡ b + e → (d ≡ 0) ⊎ (e ≡ 0) → d ≤ b
+pub at_most : (a b d e : ℕ) → a + d ≡ b + e → (d ≡ 0) ⊎ (e ≡ 0) → d ≤ b
 at_most a b d e same (inl none) = omega (arith, none)
 at_most a b d e same (inr none) = omega (arith, none, same)
 
 -- a number whose point is further left is less
-further : (u v a b d e : ℕ) → u < 10 ^ a → 10 ^ b ≤ v → a + d ≤ b + e → u * 10 ^ d < v * 10 ^ e
+pub further : (u v a b d e : ℕ) → u < 10 ^ a → 10 ^ b ≤ v → a + d ≤ b + e → u * 10 ^ d < v * 10 ^ e
 further u v a b d e small large less =
     let first = scaled_less u (10 ^ a) (10 ^ d) small (ten_some d) in
     let one = pow-add 10 a d in
@@ -182,7 +182,7 @@ further u v a b d e small large less =
     omega (arith, first, one, two, most, last)
 
 -- counted at another power of ten
-moved : (r : Ordering) (u v a b d e : ℕ) → a + d ≡ b + e → d ≤ b → IsOrder r (u * 10 ^ b) (v * 10 ^ a) → nat_cmp (u * 10 ^ d) (v * 10 ^ e) ≡ r
+pub moved : (r : Ordering) (u v a b d e : ℕ) → a + d ≡ b + e → d ≤ b → IsOrder r (u * 10 ^ b) (v * 10 ^ a) → nat_cmp (u * 10 ^ d) (v * 10 ^ e) ≡ r
 moved r u v a b d e same less h =
     let k = b - d in
     let first : b ≡ d + k = omega (arith, less) in
@@ -271,7 +271,7 @@ below Equal m n h = ap (λ k. neg_ℤ (pos k)) (sym h)
 below Greater m n h = omega (arith, ints, h)
 
 -- the order of two numbers, by their signs and sizes
-signed_cmp : (a b : Bool) (m n : ℕ) → (a ≡ true → 0 < m) → (b ≡ true → 0 < n)
+pub signed_cmp : (a b : Bool) (m n : ℕ) → (a ≡ true → 0 < m) → (b ≡ true → 0 < n)
     → int_cmp (signed a m) (signed b n) ≡ ordering_then (bool_cmp b a) (if a then nat_cmp n m else nat_cmp m n)
 signed_cmp false false m n p q = int_cmp_is (nat_cmp m n) (pos m) (pos n) (above (nat_cmp m n) m n (is_cmp m n))
 signed_cmp true true m n p q = int_cmp_is (nat_cmp n m) (neg_ℤ (pos m)) (neg_ℤ (pos n)) (below (nat_cmp n m) m n (is_cmp n m))
@@ -307,11 +307,11 @@ not_zero_below true [] are first is = cc
 not_zero_below true (d ∷ ds) are first is = some_value (d ∷ ds) are first refl
 not_zero_below false ds are first is = cc
 
-scaled : (s t : List ℕ) → units_of s t ≡ signed (is_below_zero s) (digits_value 10 (first_digits s) * 10 ^ excess (scale_of s -ℤ scale_of t))
+pub scaled : (s t : List ℕ) → units_of s t ≡ signed (is_below_zero s) (digits_value 10 (first_digits s) * 10 ^ excess (scale_of s -ℤ scale_of t))
 scaled s t = ap (λ z. z *ℤ pos (10 ^ excess (scale_of s -ℤ scale_of t))) (whole_is s)
     ∙ times (is_below_zero s) (digits_value 10 (first_digits s)) (10 ^ excess (scale_of s -ℤ scale_of t))
 
-size_below : (s t : List ℕ) → is_below_zero s ≡ true → 0 < digits_value 10 (first_digits s) * 10 ^ excess (scale_of s -ℤ scale_of t)
+pub size_below : (s t : List ℕ) → is_below_zero s ≡ true → 0 < digits_value 10 (first_digits s) * 10 ^ excess (scale_of s -ℤ scale_of t)
 size_below s t is = some_times (digits_value 10 (first_digits s)) (excess (scale_of s -ℤ scale_of t))
     (not_zero_below (is_negative s) (first_digits s) (are_digits s) (begin_digits s) is)
 

@@ -1,16 +1,18 @@
 -- The digits and the point of a number, by which numbers are compared.
-use Rattle.std.specs.Prelude.{◌≡◌, ℕ, ◌&&◌, ◌||◌, not, Bool, List, [], ◌∷◌, ◌++◌, if◌then◌else◌}
+use Rattle.std.specs.Prelude.{◌≡◌, ℕ, ◌≤◌, ◌⊎◌, ◌&&◌, ◌||◌, not, Bool, List, [], ◌∷◌, ◌++◌, length, if◌then◌else◌, pos, ◌-ℤ◌, Some}
 use Rattle.std.specs.declared.cmp.Ordering.{Ordering}
 use Rattle.std.specs.declared.cmp.Ordering.TheVariants.{Less, Equal, Greater}
+use Rattle.std.specs.Str.Parse.{AllDigits}
 use Rattle.std.specs.Ordering.{bool_cmp, int_cmp, nat_cmp, ordering_then}
 use Rattle.csvw_double.specs.declared.order.Decimal.{Decimal}
 use Rattle.csvw_double.specs.declared.order.Place.{Place}
 use Rattle.csvw_double.specs.declared.order.Place.TheVariants.{Least, Number, Greatest}
 use Rattle.csvw_double.specs.declared.order.Places.{Places}
+use Rattle.csvw_double.specs.declared.plain.Plain.{Plain}
 use Rattle.csvw_double.specs.Digits.{after_zeros, is_empty}
 use Rattle.csvw_double.specs.Doubles.{digits_from_first, is_negative, parts_of, point_of}
 use Rattle.csvw_double.specs.Order.{place_of}
-use Rattle.std.specs.Prelude.{Some}
+use Rattle.csvw_double.specs.Values.{scale_of}
 
 -- the digits of both pieces
 abbrev pub all_of : Places → List ℕ
@@ -47,3 +49,29 @@ abbrev pub IsPlaceOf : List ℕ → Place → Type 0
 IsPlaceOf text Least = place_of text ≡ Some Less
 IsPlaceOf text (Number found) = (place_of text ≡ Some Equal) × IsDecimalOf text found
 IsPlaceOf text Greatest = place_of text ≡ Some Greater
+
+-- the text is digits, perhaps with a point behind some of them: those before the point, and those after it
+pub record IsSplitOf (text : List ℕ) (found : Places) : Type 0 where
+  pub some : 1 ≤ length found.whole.now
+  pub whole : AllDigits 10 found.whole.now
+  pub fraction : AllDigits 10 found.fraction.now
+  pub is : ((text ≡ found.whole.now) × (found.fraction.now ≡ [])) ⊎ (text ≡ found.whole.now ++ (46 ∷ found.fraction.now))
+
+-- a number in digits alone: its digits before and after the point, of which the first isn't 0, and whether it is below 0
+pub record IsPlainOf (text : List ℕ) (found : Plain) : Type 0 where
+  pub place : place_of text ≡ Some Equal
+  pub whole : AllDigits 10 found.digits.whole.now
+  pub fraction : AllDigits 10 found.digits.fraction.now
+  pub first : after_zeros found.digits.whole.now ≡ found.digits.whole.now
+  pub digits : digits_from_first (parts_of text) ≡ after_zeros (all_of found.digits)
+  pub scale : scale_of text ≡ pos 0 -ℤ pos (length found.digits.fraction.now)
+  pub sign : found.is_negative ≡ (is_negative text && not (is_empty (digits_from_first (parts_of text))))
+
+-- the order of two sizes: that of the numbers of digits before the point, and then of the digits
+abbrev pub plain_sizes_cmp : Places → Places → Ordering
+plain_sizes_cmp a b = ordering_then (nat_cmp (length a.whole.now) (length b.whole.now)) (digits_cmp (all_of a) (all_of b))
+
+-- the order of two numbers in digits alone
+abbrev pub plain_cmp : Plain → Plain → Ordering
+plain_cmp a b =
+    ordering_then (bool_cmp b.is_negative a.is_negative) (if a.is_negative then plain_sizes_cmp b.digits a.digits else plain_sizes_cmp a.digits b.digits)

@@ -10,7 +10,7 @@ use crate::trimmed::{after_zeros, before_zeros};
 const MOST: usize = 21;
 
 /// Returns how many digits a text begins with.
-fn digits_len(text: &[u8]) -> usize
+pub(crate) fn digits_len(text: &[u8]) -> usize
     ensures within { result ≤ length text.now }
     ensures digits { AllDigits 10 (take result text.now) }
 {
@@ -91,7 +91,7 @@ fn is_unsigned(text: &[u8]) -> bool
 }
 
 /// Whether a text is only digits.
-fn is_digits(text: &[u8]) -> bool
+pub(crate) fn is_digits(text: &[u8]) -> bool
     ensures { result ≡ true → AllDigits 10 text.now }
 {
     digits_len(text) == text.len()

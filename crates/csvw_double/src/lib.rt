@@ -24,6 +24,7 @@ mod form;
 mod laws;
 mod numeral;
 mod order;
+mod plain;
 mod trimmed;
 
 pub use double::{canonical_double, double_of, is_double, whole_double};
