@@ -50,114 +50,114 @@ complete -o bashdefault -o default -F %f %w
 ";
 
 /// Adds a template for each subcommand, with its name.
-fn add_names(script: &mut Script<'_>, template: &str, command: &Command<'_>) {
+fn add_names(mut script: Script, template: &str, command: &Command<'_>) -> Script {
     for subcommand in command.get_subcommands() {
         if is_own(subcommand) {
-            script.fill(template, subcommand.get_name());
+            script = script.fill(template, subcommand.get_name());
         }
     }
+    script
 }
 
 /// Adds what completes the value of an option.
-fn add_option(script: &mut Script<'_>, name: &str, arg: &Arg<'_>) {
-    let Some(long) = arg.get_long() else {
-        return;
-    };
-    script.fill("        %w:--", name);
-    script.fill("%w", long);
-    if !script.add_values(VALUES, " ", arg) {
-        script.push(FREE);
+fn add_option(script: Script, name: &str, arg: &Arg<'_>) -> Script {
+    match arg.get_long() {
+        Some(long) => script
+            .fill("        %w:--", name)
+            .fill("%w", long)
+            .add_values(VALUES, " ", arg, FREE),
+        None => script,
     }
 }
 
 /// Adds what completes the values of the options of a command.
-fn add_options(script: &mut Script<'_>, name: &str, command: &Command<'_>) {
+fn add_options(mut script: Script, name: &str, command: &Command<'_>) -> Script {
     for arg in command.get_arguments() {
         if is_shown(arg) && takes_value(arg) {
-            add_option(script, name, arg);
+            script = add_option(script, name, arg);
         }
     }
+    script
 }
 
 /// Adds the long names of the options of a command.
-fn add_long_names(script: &mut Script<'_>, command: &Command<'_>) {
+fn add_long_names(mut script: Script, command: &Command<'_>) -> Script {
     for arg in command.get_arguments() {
         if let Some(long) = arg.get_long()
             && is_shown(arg)
         {
-            script.fill("--%w ", long);
+            script = script.fill("--%w ", long);
         }
     }
-    let last = match command.get_version() {
+    script.push(match command.get_version() {
         Some(_) => "--help --version",
         None => "--help",
-    };
-    script.push(last);
+    })
 }
 
 /// Adds the values of an argument that is no option, if they are known.
-fn add_positional(script: &mut Script<'_>, name: &str, arg: &Arg<'_>) {
-    let values = script.values(arg);
-    if !values.is_empty() {
-        script.fill("        %w", name);
-        script.add_list(VALUES, " ", values.as_slice());
+fn add_positional(script: Script, name: &str, arg: &Arg<'_>) -> Script {
+    let (script, values) = script.values(arg);
+    if values.is_empty() {
+        return script;
     }
+    script
+        .fill("        %w", name)
+        .add_list(VALUES, " ", values.as_slice())
 }
 
 /// Adds the values of the arguments of a command that are no options.
-fn add_positionals(script: &mut Script<'_>, name: &str, command: &Command<'_>) {
+fn add_positionals(mut script: Script, name: &str, command: &Command<'_>) -> Script {
     for arg in command.get_arguments() {
         if is_shown(arg) && arg.is_positional() {
-            add_positional(script, name, arg);
+            script = add_positional(script, name, arg);
         }
     }
+    script
 }
 
 /// Adds what completes a subcommand, or a program without subcommands: the values of its options, its options, and the values of its other arguments. Nothing
 /// is offered for a free argument, and bash completes files then.
-fn add_one(script: &mut Script<'_>, name: &str, command: &Command<'_>) {
-    add_options(script, name, command);
-    script.fill("        %w:*:-*) words=(", name);
-    add_long_names(script, command);
-    script.push(") ;;\n");
-    add_positionals(script, name, command);
-    script.fill("        %w:*) ;;\n", name);
+fn add_one(script: Script, name: &str, command: &Command<'_>) -> Script {
+    let script = add_options(script, name, command).fill("        %w:*:-*) words=(", name);
+    let script = add_long_names(script, command).push(") ;;\n");
+    add_positionals(script, name, command).fill("        %w:*) ;;\n", name)
 }
 
 /// Adds what completes each subcommand.
-fn add_subcommands(script: &mut Script<'_>, command: &Command<'_>) {
+fn add_subcommands(mut script: Script, command: &Command<'_>) -> Script {
     for subcommand in command.get_subcommands() {
         if is_own(subcommand) {
-            add_one(script, subcommand.get_name(), subcommand);
+            script = add_one(script, subcommand.get_name(), subcommand);
         }
     }
+    script
 }
 
 /// Adds what completes the program itself: its subcommands and its options.
-fn add_own(script: &mut Script<'_>, command: &Command<'_>) {
+fn add_own(script: Script, command: &Command<'_>) -> Script {
     if !command.has_subcommands() {
         return add_one(script, "", command);
     }
-    script.push("        help:*) words=(help");
-    add_names(script, " %w", command);
-    script.push(") ;;\n        *) words=(help");
-    add_names(script, " %w", command);
-    script.push(" ");
-    add_long_names(script, command);
-    script.push(") ;;\n");
+    let script = script.push("        help:*) words=(help");
+    let script = add_names(script, " %w", command).push(") ;;\n        *) words=(help");
+    let script = add_names(script, " %w", command).push(" ");
+    add_long_names(script, command).push(") ;;\n")
+}
+
+/// Adds what finds the subcommand among the words, if there are subcommands.
+fn add_search(script: Script, command: &Command<'_>) -> Script {
+    if command.has_subcommands() {
+        add_names(script.push(SEARCH), "|%w", command).push(FOUND)
+    } else {
+        script
+    }
 }
 
 /// Adds the completions of a program for bash.
-pub(crate) fn add_bash(script: &mut Script<'_>, command: &Command<'_>) {
+pub(crate) fn add_bash(script: Script, command: &Command<'_>) -> Script {
     let program = command.get_name();
-    script.fill(BEGIN, program);
-    if command.has_subcommands() {
-        script.push(SEARCH);
-        add_names(script, "|%w", command);
-        script.push(FOUND);
-    }
-    script.push("    case $subcommand:$prev:$cur in\n");
-    add_subcommands(script, command);
-    add_own(script, command);
-    script.fill(END, program);
+    let script = add_search(script.fill(BEGIN, program), command);
+    let script = script.push("    case $subcommand:$prev:$cur in\n");
+    add_own(add_subcommands(script, command), command).fill(END, program)
 }

@@ -15,11 +15,11 @@ pub fn push_completions(
     command: &Command<'_>,
     shell: Shell,
 ) -> Result<(), AllocError> {
-    let mut script = Script::new(text);
-    match shell {
-        Shell::Bash => add_bash(&mut script, command),
-        Shell::Zsh => add_zsh(&mut script, command),
-        Shell::Fish => add_fish(&mut script, command),
-    }
-    script.end()
+    let script = Script::of(text);
+    let script = match shell {
+        Shell::Bash => add_bash(script, command),
+        Shell::Zsh => add_zsh(script, command),
+        Shell::Fish => add_fish(script, command),
+    };
+    script.end(text)
 }

@@ -19,126 +19,149 @@ struct Place<'a> {
 }
 
 /// Adds the start of a completion: the program, and the condition.
-fn add_start(script: &mut Script<'_>, place: &Place<'_>) {
-    script.fill("complete -c %W", place.program);
+fn add_start(script: Script, place: &Place<'_>) -> Script {
+    let script = script.fill("complete -c %W", place.program);
     match place.subcommand {
         Some(name) => script.fill(" -n '__fish_seen_subcommand_from %I'", name),
         None if place.has_subcommands => script.push(" -n __fish_use_subcommand"),
-        None => {}
+        None => script,
     }
 }
 
 /// Adds a description, and the end of the line.
-fn add_end(script: &mut Script<'_>, help: Option<&str>) {
-    if let Some(help) = help {
-        script.fill(" -d %Q", help);
+fn add_end(script: Script, help: Option<&str>) -> Script {
+    match help {
+        Some(help) => script.fill(" -d %Q\n", help),
+        None => script.push("\n"),
     }
-    script.push("\n");
+}
+
+/// Adds the short name of an option, if it has one.
+fn add_short(script: Script, short: Option<char>) -> Script {
+    match short {
+        Some(short) => script.push(" -s ").add_letter('p', short),
+        None => script,
+    }
+}
+
+/// Adds the long name of an option, if it has one.
+fn add_long(script: Script, long: Option<&str>) -> Script {
+    match long {
+        Some(long) => script.fill(" -l %W", long),
+        None => script,
+    }
+}
+
+/// Adds the value of an option, if it has one.
+fn add_value(script: Script, arg: &Arg<'_>) -> Script {
+    if takes_value(arg) {
+        script.push(" -x").add_values(VALUES, " ", arg, "")
+    } else {
+        script
+    }
 }
 
 /// Adds an option.
-fn add_option(script: &mut Script<'_>, place: &Place<'_>, arg: &Arg<'_>) {
-    add_start(script, place);
-    if let Some(short) = arg.get_short() {
-        script.push(" -s ");
-        script.add_letter('p', short);
-    }
-    if let Some(long) = arg.get_long() {
-        script.fill(" -l %W", long);
-    }
-    if takes_value(arg) {
-        script.push(" -x");
-        script.add_values(VALUES, " ", arg);
-    }
-    add_end(script, arg.get_help());
+fn add_option(script: Script, place: &Place<'_>, arg: &Arg<'_>) -> Script {
+    let script = add_short(add_start(script, place), arg.get_short());
+    let script = add_long(script, arg.get_long());
+    add_end(add_value(script, arg), arg.get_help())
 }
 
 /// Adds an argument that is no option, if its values are known.
-fn add_positional(script: &mut Script<'_>, place: &Place<'_>, arg: &Arg<'_>) {
-    let values = script.values(arg);
-    if !values.is_empty() {
-        add_start(script, place);
-        script.add_list(VALUES, " ", values.as_slice());
-        script.push("\n");
+fn add_positional(script: Script, place: &Place<'_>, arg: &Arg<'_>) -> Script {
+    let (script, values) = script.values(arg);
+    if values.is_empty() {
+        return script;
+    }
+    add_start(script, place)
+        .add_list(VALUES, " ", values.as_slice())
+        .push("\n")
+}
+
+/// Adds an argument.
+fn add_argument(script: Script, place: &Place<'_>, arg: &Arg<'_>) -> Script {
+    if arg.is_positional() {
+        add_positional(script, place, arg)
+    } else {
+        add_option(script, place, arg)
     }
 }
 
 /// Adds the arguments of a command.
-fn add_arguments(script: &mut Script<'_>, place: &Place<'_>, command: &Command<'_>) {
+fn add_arguments(mut script: Script, place: &Place<'_>, command: &Command<'_>) -> Script {
     for arg in command.get_arguments() {
-        if !is_shown(arg) {
-            continue;
-        }
-        if arg.is_positional() {
-            add_positional(script, place, arg);
-        } else {
-            add_option(script, place, arg);
+        if is_shown(arg) {
+            script = add_argument(script, place, arg);
         }
     }
+    script
+}
+
+/// Adds a completion with an end of its own.
+fn add_line(script: Script, place: &Place<'_>, end: &str) -> Script {
+    add_start(script, place).push(end)
 }
 
 /// Adds what completes a command: its arguments, files if it takes an argument that is no option, and its help.
-fn add_command(script: &mut Script<'_>, place: &Place<'_>, command: &Command<'_>) {
-    add_arguments(script, place, command);
+fn add_command(script: Script, place: &Place<'_>, command: &Command<'_>) -> Script {
+    let mut script = add_arguments(script, place, command);
     if has_positionals(command) {
-        add_start(script, place);
-        script.push(" -F\n");
+        script = add_line(script, place, " -F\n");
     }
-    add_start(script, place);
-    script.push(" -s h -l help -d 'Print help'\n");
-    if command.get_version().is_some() {
-        add_start(script, place);
-        script.push(" -s V -l version -d 'Print version'\n");
+    let script = add_line(script, place, " -s h -l help -d 'Print help'\n");
+    match command.get_version() {
+        Some(_) => add_line(script, place, " -s V -l version -d 'Print version'\n"),
+        None => script,
     }
 }
 
 /// Adds the name of a subcommand, with what it does.
-fn add_name(script: &mut Script<'_>, place: &Place<'_>, name: &str, about: Option<&str>) {
-    add_start(script, place);
-    script.fill(" -a %D", name);
-    add_end(script, about);
+fn add_name(script: Script, place: &Place<'_>, name: &str, about: Option<&str>) -> Script {
+    add_end(add_start(script, place).fill(" -a %D", name), about)
 }
 
 /// Adds the names of the subcommands.
-fn add_names(script: &mut Script<'_>, place: &Place<'_>, command: &Command<'_>) {
+fn add_names(mut script: Script, place: &Place<'_>, command: &Command<'_>) -> Script {
     for subcommand in command.get_subcommands() {
         if is_own(subcommand) {
-            add_name(script, place, subcommand.get_name(), subcommand.get_about());
+            script = add_name(script, place, subcommand.get_name(), subcommand.get_about());
         }
     }
+    script
 }
 
 /// Adds what completes each subcommand.
-fn add_subcommands(script: &mut Script<'_>, place: Place<'_>, command: &Command<'_>) {
+fn add_subcommands(mut script: Script, place: Place<'_>, command: &Command<'_>) -> Script {
     for subcommand in command.get_subcommands() {
         if is_own(subcommand) {
             let place = Place {
                 subcommand: Some(subcommand.get_name()),
                 ..place
             };
-            add_command(script, &place, subcommand);
+            script = add_command(script, &place, subcommand);
         }
     }
+    script
 }
 
 /// Adds the completions of a program for fish.
-pub(crate) fn add_fish(script: &mut Script<'_>, command: &Command<'_>) {
+pub(crate) fn add_fish(script: Script, command: &Command<'_>) -> Script {
     let own = Place {
         program: command.get_name(),
         subcommand: None,
         has_subcommands: command.has_subcommands(),
     };
-    script.fill("complete -c %W -f\n", own.program);
-    add_command(script, &own, command);
+    let script = script.fill("complete -c %W -f\n", own.program);
+    let script = add_command(script, &own, command);
     if !own.has_subcommands {
-        return;
+        return script;
     }
-    add_names(script, &own, command);
-    add_name(script, &own, "help", Some("Print help of a subcommand"));
+    let script = add_names(script, &own, command);
+    let script = add_name(script, &own, "help", Some("Print help of a subcommand"));
     let help = Place {
         subcommand: Some("help"),
         ..own
     };
-    add_names(script, &help, command);
-    add_subcommands(script, own, command);
+    add_subcommands(add_names(script, &help, command), own, command)
 }

@@ -8,6 +8,7 @@ use crate::words::{
 };
 use clap::Arg;
 use std::alloc::AllocError;
+use std::mem::replace;
 
 /// Adds a part in the form that a letter of a template names.
 fn push_part(text: &mut String, form: char, part: &str) -> Result<(), AllocError> {
@@ -91,6 +92,9 @@ fn push_letter(text: &mut String, form: char, letter: char) -> Result<(), AllocE
 
 /// A text to which texts and templates are added. Once memory runs out, no more is added.
 ///
+/// Each method takes the script and returns it. A call that changes a borrowed script beside a borrowed command takes several times
+/// as long to prove.
+///
 /// In a template a percent sign and a letter stand for a part, in one of these forms:
 ///
 /// - `%p`: as it is,
@@ -101,81 +105,94 @@ fn push_letter(text: &mut String, form: char, letter: char) -> Result<(), AllocE
 /// - `%I`, `%D`: as a word that fish reads twice, within quotes or not,
 /// - `%r`, `%c`: as roff, in capitals for `%c`,
 /// - `%l`: as a line of roff.
-#[derive(Drop)]
-pub(crate) struct Script<'a> {
-    text: &'a mut String,
+pub(crate) struct Script {
+    text: String,
     is_cut: bool,
 }
 
-impl<'a> Script<'a> {
-    /// Begins to add to a text.
-    pub(crate) fn new(text: &'a mut String) -> Script<'a> {
+impl Script {
+    /// Takes a text, to add to it. `end` puts it back.
+    pub(crate) fn of(text: &mut String) -> Script {
+        let alloc = *text.allocator();
         Script {
-            text,
+            text: replace(text, String::new(alloc)),
             is_cut: false,
         }
     }
 
     /// Adds a text as it is.
-    pub(crate) fn push(&mut self, text: &str) {
+    pub(crate) fn push(mut self, text: &str) -> Script {
         if !self.is_cut {
             self.is_cut = self.text.push_str(text).is_err();
         }
+        self
     }
 
     /// Adds a template with a part.
-    pub(crate) fn fill(&mut self, template: &str, part: &str) {
+    pub(crate) fn fill(mut self, template: &str, part: &str) -> Script {
         if !self.is_cut {
-            self.is_cut = push_template(self.text, template, part).is_err();
+            self.is_cut = push_template(&mut self.text, template, part).is_err();
         }
+        self
     }
 
     /// Adds a template with some parts in place of one, and a text between them.
-    pub(crate) fn add_list(&mut self, template: &str, between: &str, parts: &[&str]) {
+    pub(crate) fn add_list(mut self, template: &str, between: &str, parts: &[&str]) -> Script {
         if !self.is_cut {
-            self.is_cut = push_list(self.text, template, between, parts).is_err();
+            self.is_cut = push_list(&mut self.text, template, between, parts).is_err();
         }
+        self
     }
 
-    /// Adds a template with the values that an argument can have, and a text between them. Returns whether it has any: it adds
-    /// nothing if they are free or memory runs out.
-    pub(crate) fn add_values(&mut self, template: &str, between: &str, arg: &Arg<'_>) -> bool {
-        let values = self.values(arg);
+    /// Adds a template with the values that an argument can have, and a text between them, or another text if they are free.
+    pub(crate) fn add_values(
+        self,
+        template: &str,
+        between: &str,
+        arg: &Arg<'_>,
+        free: &str,
+    ) -> Script {
+        let (script, values) = self.values(arg);
         if values.is_empty() {
-            return false;
+            script.push(free)
+        } else {
+            script.add_list(template, between, values.as_slice())
         }
-        self.add_list(template, between, values.as_slice());
-        true
     }
 
     /// Adds a letter, as roff if the form is `r`, and else as it is.
-    pub(crate) fn add_letter(&mut self, form: char, letter: char) {
+    pub(crate) fn add_letter(mut self, form: char, letter: char) -> Script {
         if !self.is_cut {
-            self.is_cut = push_letter(self.text, form, letter).is_err();
+            self.is_cut = push_letter(&mut self.text, form, letter).is_err();
         }
+        self
     }
 
     /// Adds an argument as the command line shows it, as roff.
-    pub(crate) fn add_shape(&mut self, arg: &Arg<'_>) {
+    pub(crate) fn add_shape(mut self, arg: &Arg<'_>) -> Script {
         if !self.is_cut {
-            self.is_cut = push_shape(self.text, arg).is_err();
+            self.is_cut = push_shape(&mut self.text, arg).is_err();
         }
+        self
     }
 
-    /// Returns the values that an argument can have, or none if they are free or memory runs out.
-    pub(crate) fn values<'v>(&mut self, arg: &Arg<'v>) -> Vec<&'v str> {
+    /// Returns the script, and the values that an argument can have: none if they are free or memory runs out.
+    pub(crate) fn values<'v>(mut self, arg: &Arg<'v>) -> (Script, Vec<&'v str>) {
         let alloc = *self.text.allocator();
-        match possible_values(alloc, arg) {
+        let values = match possible_values(alloc, arg) {
             Ok(values) => values,
             Err(_) => {
                 self.is_cut = true;
                 Vec::new(alloc)
             }
-        }
+        };
+        (self, values)
     }
 
-    /// Fails with `AllocError` if memory ran out.
-    pub(crate) fn end(self) -> Result<(), AllocError> {
-        if self.is_cut { Err(AllocError) } else { Ok(()) }
+    /// Puts the text back. Fails with `AllocError` if memory ran out.
+    pub(crate) fn end(self, text: &mut String) -> Result<(), AllocError> {
+        let Script { text: made, is_cut } = self;
+        *text = made;
+        if is_cut { Err(AllocError) } else { Ok(()) }
     }
 }

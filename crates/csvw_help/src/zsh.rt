@@ -46,94 +46,88 @@ fi
 ";
 
 /// Adds what completes the value of an argument: its values, or `free` if it has none.
-fn add_action(script: &mut Script<'_>, arg: &Arg<'_>, free: &str) {
-    script.fill(":%s:", arg.get_id());
-    if !script.add_values("(%i)", " ", arg) {
-        script.push(free);
-    }
+fn add_action(script: Script, arg: &Arg<'_>, free: &str) -> Script {
+    script
+        .fill(":%s:", arg.get_id())
+        .add_values("(%i)", " ", arg, free)
 }
 
 /// Adds an option.
-fn add_option(script: &mut Script<'_>, long: &str, arg: &Arg<'_>) {
-    script.fill(if takes_value(arg) { "--%s=" } else { "--%s" }, long);
-    script.fill("[%s]", arg.get_help().unwrap_or(""));
+fn add_option(script: Script, long: &str, arg: &Arg<'_>) -> Script {
+    let help = arg.get_help().unwrap_or("");
     if takes_value(arg) {
-        add_action(script, arg, " ");
+        add_action(script.fill("--%s=", long).fill("[%s]", help), arg, " ")
+    } else {
+        script.fill("--%s", long).fill("[%s]", help)
     }
 }
 
 /// Adds an argument. A value that isn't an option's is completed as a file.
-fn add_argument(script: &mut Script<'_>, arg: &Arg<'_>) {
+fn add_argument(script: Script, arg: &Arg<'_>) -> Script {
     match arg.get_long() {
         Some(long) => add_option(script, long, arg),
-        None => {
-            script.push(if takes_several(arg) { "*" } else { "" });
-            add_action(script, arg, "_files");
-        }
+        None if takes_several(arg) => add_action(script.push("*"), arg, "_files"),
+        None => add_action(script, arg, "_files"),
     }
 }
 
 /// Adds the arguments of a command, each in quotes on a line of its own.
-fn add_arguments(script: &mut Script<'_>, indent: &str, command: &Command<'_>) {
+fn add_arguments(mut script: Script, indent: &str, command: &Command<'_>) -> Script {
     for arg in command.get_arguments() {
         if is_shown(arg) && (arg.get_long().is_some() || arg.is_positional()) {
-            script.fill(" \\\n%p'", indent);
-            add_argument(script, arg);
-            script.push("'");
+            script = add_argument(script.fill(" \\\n%p'", indent), arg).push("'");
         }
     }
+    script
 }
 
 /// Adds the case of a subcommand.
-fn add_case(script: &mut Script<'_>, command: &Command<'_>) {
-    script.fill(CASE, command.get_name());
-    add_arguments(script, "                        ", command);
-    script.push("\n                    ;;\n");
+fn add_case(script: Script, command: &Command<'_>) -> Script {
+    let script = script.fill(CASE, command.get_name());
+    add_arguments(script, "                        ", command).push("\n                    ;;\n")
 }
 
 /// Adds the subcommands with what they do.
-fn add_subcommands(script: &mut Script<'_>, command: &Command<'_>) {
-    script.push("    local -a subcommands=(\n");
+fn add_subcommands(script: Script, command: &Command<'_>) -> Script {
+    let mut script = script.push("    local -a subcommands=(\n");
     for subcommand in command.get_subcommands() {
         if is_own(subcommand) {
-            script.fill("        '%s:", subcommand.get_name());
-            script.fill("%t'\n", subcommand.get_about().unwrap_or(""));
+            script = script
+                .fill("        '%s:", subcommand.get_name())
+                .fill("%t'\n", subcommand.get_about().unwrap_or(""));
         }
     }
-    script.push("        'help:Print help of a subcommand'\n    )\n");
+    script.push("        'help:Print help of a subcommand'\n    )\n")
 }
 
 /// Adds the cases of the subcommands.
-fn add_cases(script: &mut Script<'_>, command: &Command<'_>) {
-    script.push(STATES);
+fn add_cases(script: Script, command: &Command<'_>) -> Script {
+    let mut script = script.push(STATES);
     for subcommand in command.get_subcommands() {
         if is_own(subcommand) {
-            add_case(script, subcommand);
+            script = add_case(script, subcommand);
         }
     }
-    script.push("            esac\n            ;;\n    esac\n");
+    script.push("            esac\n            ;;\n    esac\n")
 }
 
 /// Adds the options and the other arguments of the program itself.
-fn add_own(script: &mut Script<'_>, command: &Command<'_>) {
-    script.push(OPTIONS);
-    if command.get_version().is_some() {
-        script.push(VERSION);
-    }
-    add_arguments(script, "        ", command);
+fn add_own(script: Script, command: &Command<'_>) -> Script {
+    let script = script.push(OPTIONS).push(match command.get_version() {
+        Some(_) => VERSION,
+        None => "",
+    });
+    add_arguments(script, "        ", command)
 }
 
 /// Adds the completions of a program for zsh.
-pub(crate) fn add_zsh(script: &mut Script<'_>, command: &Command<'_>) {
+pub(crate) fn add_zsh(script: Script, command: &Command<'_>) -> Script {
     let program = command.get_name();
-    script.fill(BEGIN, program);
-    if command.has_subcommands() {
-        add_subcommands(script, command);
-        add_own(script, command);
-        add_cases(script, command);
+    let script = script.fill(BEGIN, program);
+    let script = if command.has_subcommands() {
+        add_cases(add_own(add_subcommands(script, command), command), command)
     } else {
-        add_own(script, command);
-        script.push("\n");
-    }
-    script.fill(END, program);
+        add_own(script, command).push("\n")
+    };
+    script.fill(END, program)
 }
