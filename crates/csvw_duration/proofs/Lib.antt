@@ -1,0 +1,3 @@
+mod DigitLemmas
+mod ReadAgain
+mod OneDuration
