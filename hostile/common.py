@@ -57,6 +57,13 @@ BOUNDS = """{"@context":"http://www.w3.org/ns/csvw","url":"b.csv","tableSchema":
 {"name":"share","datatype":{"base":"number","minimum":0,"maxExclusive":"1.5E3"}},
 {"name":"logs","separator":";","datatype":{"base":"double","minExclusive":"-INF","maxInclusive":"0.00000012"}}]}}"""
 
+OCTETS = """{"@context":"http://www.w3.org/ns/csvw","url":"o.csv","tableSchema":{"primaryKey":"took","columns":[
+{"name":"took","datatype":{"base":"duration","format":"P.*"}},
+{"name":"sums","separator":";","datatype":{"base":"hexBinary","minLength":2}},
+{"name":"data","datatype":"base64Binary"},
+{"name":"name","datatype":"QName"},
+{"name":"note","datatype":"normalizedString"}]}}"""
+
 # The small files of the groups that are not in examples/.
 FILES = {
     "keys/meta.json": KEYS,
@@ -77,6 +84,9 @@ FILES = {
     "formatted/f.csv": 'share,logs\n"12,345,678.5","1.234.567,000000000000000001E-300;INF;5%"\n1234.5,"1,5E"\n"100,000,000,000,000,000,000.5",\n',
     "bounds/meta.json": BOUNDS,
     "bounds/b.csv": f"share,logs\n1.{'12' * 30}E2,-1e300;-INF;1.2E-7\n-0.5,1\n1500,NaN\nINF,\n",
+    "octets/meta.json": OCTETS,
+    "octets/o.csv": f"took,sums,data,name,note\nP1Y14M2DT3H61M5.{'10' * 4}S,{'0fb7' * 20};0f,{'T W F u ' * 16},{'iso' * 20}:code,\"a\t{'b  ' * 20}\nc\"\n"
+                    "5 days,0fb,TR==,a:b:c,\n",
     "ragged.csv": "id\n1\n2\n3,4\n",
     "empty.csv": "",
 }
@@ -111,6 +121,7 @@ RUNS = [
     Run("moments with a space", group("convert --minimal --profile w3c", "spaced", "s.csv")),
     Run("bounds of numbers with an exponent", group("convert --minimal --profile w3c", "bounds", "b.csv")),
     Run("formats of numbers with an exponent", group("convert --minimal --profile w3c", "formatted", "f.csv")),
+    Run("durations and octets", group("convert --minimal --profile w3c", "octets", "o.csv")),
     Run("a document that is refused", group("convert", "twice", "prices.csv", "prices.csv")),
     Run("too few files", group("convert", "rivers", "stations.csv")),
     Run("help", ["--help"]),

@@ -1,3 +1,4 @@
 mod ListLemmas
 mod NormalLemmas
 mod OverLemmas
+mod ReplaceLemmas

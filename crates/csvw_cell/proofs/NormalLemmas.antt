@@ -1,5 +1,5 @@
 -- Texts without white space, which steps 1 and 2 leave as they are.
-use Rattle.std.proofs.Common.{◌≡◌, ◌∙◌, ◌<◌, ◌≤◌, ℕ, Bool, true, false, List, [], ◌∷◌, refl, sym, ap, arith, ◌==◌, ◌+◌, ◌/◌, ◌%◌, cond, nat_lt}
+use Rattle.std.proofs.Common.{◌≡◌, ◌∙◌, ◌<◌, ◌≤◌, ℕ, Bool, true, false, List, [], ◌∷◌, refl, sym, ap, ap₂, arith, ◌==◌, ◌+◌, ◌/◌, ◌%◌, cond, nat_lt}
 use Rattle.std.proofs.Common.{⊎_elim, ◌-◌, length, min, slice_index_or, take, drop}
 use Rattle.std.specs.Prelude.{◌||◌, not, if◌then◌else◌, IsUtf8, chars, encode_utf8, encode_utf8_all}
 use lib.Utf8.{encode}
@@ -10,6 +10,9 @@ use Rattle.std.proofs.lemmas.List.Folds.{list_any-append}
 use Rattle.std.proofs.lemmas.Str.{encode_ascii, encodes-chars}
 use Rattle.std.proofs.Math.Seq.{take-length}
 use Rattle.csvw_text.specs.Collapse.{is_break, is_space, spaced, unled, single, collapse}
+use Rattle.csvw_datatype.specs.declared.white_space.WhiteSpace.{WhiteSpace}
+use Rattle.csvw_datatype.specs.declared.white_space.WhiteSpace.TheVariants as ways
+use Rattle.csvw_cell.specs.CellOf.{normalized_by}
 
 neither : (a b : Bool) → (a || b) ≡ false → (a ≡ false) × (b ≡ false)
 neither false b e = (refl, e)
@@ -34,8 +37,20 @@ unled_same : (cs : List ℕ) → list_any is_space cs ≡ false → unled cs ≡
 unled_same [] e = refl
 unled_same (c ∷ cs) e = cond-false _ _ _ (other c (neither (is_space c) (list_any is_space cs) e).0).1
 
-pub collapse_same : (cs : List ℕ) → list_any is_space cs ≡ false → collapse cs ≡ cs
+spaced_same : (cs : List ℕ) → list_any is_space cs ≡ false → spaced cs ≡ cs
+spaced_same [] e = refl
+spaced_same (c ∷ cs) e =
+    let both = neither (is_space c) (list_any is_space cs) e in
+    ap₂ (λ x xs. x ∷ xs) (other c both.0).0 (spaced_same cs both.1)
+
+collapse_same : (cs : List ℕ) → list_any is_space cs ≡ false → collapse cs ≡ cs
 collapse_same cs e = ap unled (single_same cs e) ∙ unled_same cs e
+
+-- steps 1 and 2 leave a text without white space
+pub stays_by : (way : WhiteSpace) (text : List ℕ) → IsUtf8 text → list_any is_space (chars text) ≡ false → normalized_by way text ≡ text
+stays_by ways.Preserve text utf8 none = refl
+stays_by ways.Replace text utf8 none = ap encode_utf8_all (spaced_same (chars text) none) ∙ encodes-chars text utf8
+stays_by ways.Collapse text utf8 none = ap encode_utf8_all (collapse_same (chars text) none) ∙ encodes-chars text utf8
 
 -- no byte of a character outside ASCII is white space
 high_byte : (b : ℕ) → 128 ≤ b → is_space b ≡ false

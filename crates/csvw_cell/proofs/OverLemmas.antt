@@ -5,7 +5,8 @@ use Rattle.csvw_fault.specs.declared.fault.Code.{Code}
 use Rattle.csvw_datatype.specs.declared.datatype.Datatype.{Datatype}
 use Rattle.csvw_datatype.specs.declared.simple.Simple.{Simple}
 use Rattle.csvw_datatype.specs.declared.simple.Simple.TheVariants as simples
-use Rattle.csvw_datatype.specs.Strings.{is_text, takes_any_text, has_expression, keeps_space, space_stays}
+use Rattle.csvw_datatype.specs.Strings.{is_text, takes_any_text, has_expression, white_space, space_of}
+use Rattle.csvw_datatype.specs.declared.white_space.WhiteSpace.TheVariants as ways
 use Rattle.csvw_columns_core.specs.declared.properties.Properties.{Properties}
 use Rattle.csvw_cell.specs.declared.cell.CellValue.{CellValue}
 use Rattle.csvw_cell.specs.declared.cell.CellValue.TheVariants.{Null}
@@ -19,7 +20,7 @@ single_judged (Ok u) p d text value faults apart same judged =
     subst (λ b. MatchBool b IsNull (IsJudged p.datatype text value faults)) (sym apart) (subst (λ d. IsJudged d text value faults) same judged)
 single_judged (Err x) p d text value faults apart same judged = tt
 
-text_stays : (s : Simple) → is_text s ≡ true → space_stays s ≡ true
+text_stays : (s : Simple) → is_text s ≡ true → space_of s ≡ ways.Preserve
 text_stays simples.Text h = refl
 text_stays simples.Truth h = cc
 text_stays simples.Whole h = cc
@@ -36,5 +37,5 @@ first true b h = refl
 first false b h = cc
 
 -- white space stays in a string
-pub any_text_keeps : (d : Datatype) → takes_any_text d ≡ true → keeps_space d ≡ true
+pub any_text_keeps : (d : Datatype) → takes_any_text d ≡ true → white_space d ≡ ways.Preserve
 any_text_keeps d h = text_stays d.simple (first (is_text d.simple) (not (has_expression d.format)) h)

@@ -3,7 +3,7 @@ use Rattle.std.specs.Prelude.{◌≡◌, ℕ, ◌==◌, Bool, MatchBool, if◌th
 use Rattle.std.specs.Prelude.{Option, Some, None, chars, encode_utf8_all}
 use Rattle.std.specs.List.{list_any}
 use Rattle.std.specs.Str.Pattern.{FindsText}
-use Rattle.csvw_text.specs.Collapse.{collapse}
+use Rattle.csvw_text.specs.Collapse.{collapse, spaced}
 use Rattle.csvw_text.specs.Strip.{strip_start, strip_end}
 use Rattle.csvw_fault.specs.declared.fault.Code.{Code}
 use Rattle.csvw_fault.specs.declared.fault.Code.TheVariants.{Required}
@@ -11,7 +11,9 @@ use Rattle.csvw_datatype.specs.declared.datatype.Datatype.{Datatype}
 use Rattle.csvw_datatype.specs.declared.value.Value.TheVariants.{Text}
 use Rattle.csvw_datatype.specs.Reads.{Reads, Misread}
 use Rattle.csvw_datatype.specs.Breaks.{breaks}
-use Rattle.csvw_datatype.specs.Strings.{keeps_ends, keeps_space}
+use Rattle.csvw_datatype.specs.Strings.{keeps_ends, white_space}
+use Rattle.csvw_datatype.specs.declared.white_space.WhiteSpace.{WhiteSpace}
+use Rattle.csvw_datatype.specs.declared.white_space.WhiteSpace.TheVariants as ways
 use Rattle.csvw_columns_core.specs.declared.properties.Properties.{Properties}
 use Rattle.csvw_columns_core.specs.declared.column.Column.{Column}
 use Rattle.csvw_cell.specs.declared.cell.Item.{Item}
@@ -20,9 +22,14 @@ use Rattle.csvw_cell.specs.declared.cell.CellValue.{CellValue}
 use Rattle.csvw_cell.specs.declared.cell.CellValue.TheVariants.{Null, One, Many}
 use Rattle.csvw_cell.specs.Codes.{in_order, broken_codes}
 
--- steps 1 and 2, unless white space stays: CR, LF and tab become spaces, the ends are stripped and each run of spaces becomes one
+-- steps 1 and 2: white space stays; or CR, LF and tab become spaces; or then the ends are stripped too and each run of spaces becomes one
+abbrev pub normalized_by : WhiteSpace → List ℕ → List ℕ
+normalized_by ways.Preserve text = text
+normalized_by ways.Replace text = encode_utf8_all (spaced (chars text))
+normalized_by ways.Collapse text = encode_utf8_all (collapse (chars text))
+
 abbrev pub normalized : Datatype → List ℕ → List ℕ
-normalized d text = if keeps_space d then text else encode_utf8_all (collapse (chars text))
+normalized d text = normalized_by (white_space d) text
 
 -- steps 3 and 6: an empty text is replaced by `default`
 abbrev pub or_default : List ℕ → List ℕ → List ℕ
@@ -58,7 +65,7 @@ texts_of p parts = filter (λ text. not (is_null p.null text)) (map (item_text p
 abbrev pub IsItem : Datatype → List ℕ → Item → List Code → Type 0
 IsItem d text item codes =
     MatchBool item.was_read
-    (Reads d text item.value × (codes ≡ broken_codes (breaks item.value d.facets)))
+    (Reads d text item.value × (codes ≡ broken_codes (breaks d.simple item.value d.facets)))
     ((code : Code) × Misread d text code × (item.value ≡ Text text) × (codes ≡ code ∷ []))
 
 -- the same of each text of a list

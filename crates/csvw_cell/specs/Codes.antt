@@ -3,14 +3,14 @@ use Rattle.std.specs.Prelude.{Bool, List, [], ◌∷◌, ◌++◌, filter, bytes
 use Rattle.std.specs.List.{list_any}
 use Rattle.csvw_fault.specs.declared.fault.Code.{Code}
 use Rattle.csvw_fault.specs.declared.fault.Code.TheVariants.{Required, BadBoolean, BadInteger, BadDecimal, NumberTooLong, OutOfRange, BadDate}
-use Rattle.csvw_fault.specs.declared.fault.Code.TheVariants.{BadDateTime, BadDouble, BadTime, BadText, WrongLength, TooShort, TooLong, BelowMinimum, AboveMaximum}
+use Rattle.csvw_fault.specs.declared.fault.Code.TheVariants.{BadDateTime, BadDouble, BadTime, BadText, BadDuration, WrongLength, TooShort, TooLong, BelowMinimum, AboveMaximum}
 use Rattle.csvw_fault.specs.Code.{name_of}
 use Rattle.csvw_datatype.specs.declared.facets.Broken.{Broken}
 
 -- the codes that a cell may have, in their order
 abbrev pub cell_codes : List Code
 cell_codes = Required ∷ BadBoolean ∷ BadInteger ∷ BadDecimal ∷ NumberTooLong ∷ OutOfRange ∷ BadDate ∷ BadDateTime ∷ BadDouble ∷ BadTime ∷ BadText
-    ∷ WrongLength ∷ TooShort ∷ TooLong ∷ BelowMinimum ∷ AboveMaximum ∷ []
+    ∷ BadDuration ∷ WrongLength ∷ TooShort ∷ TooLong ∷ BelowMinimum ∷ AboveMaximum ∷ []
 
 -- the code is one of the list; two codes are the same if their names are
 abbrev pub is_among : List Code → Code → Bool

@@ -10,7 +10,7 @@ use csvw_text::{Code, Seq};
 use std::alloc::{AllocError, Global};
 
 /// The codes that a cell may have, in their order.
-const CELL_CODES: [Code; 16] = [
+const CELL_CODES: [Code; 17] = [
     Code::Required,
     Code::BadBoolean,
     Code::BadInteger,
@@ -22,6 +22,7 @@ const CELL_CODES: [Code; 16] = [
     Code::BadDouble,
     Code::BadTime,
     Code::BadText,
+    Code::BadDuration,
     Code::WrongLength,
     Code::TooShort,
     Code::TooLong,

@@ -15,7 +15,7 @@ use std::alloc::{AllocError, Global};
 /// Returns the codes of the facets that a value breaks.
 #[inline(always)]
 fn causes_of(alloc: Global, datatype: &Datatype, value: &Value) -> Result<Seq<Code>, AllocError>
-    ensures { IfOk result (λ s. s ≡ broken_codes (breaks value.now datatype.now.facets)) }
+    ensures { IfOk result (λ s. s ≡ broken_codes (breaks datatype.now.simple value.now datatype.now.facets)) }
 {
     // Most datatypes have no facets.
     if !datatype.is_faceted(value) {

@@ -14,10 +14,10 @@ use crate::cell::{CellValue, Item};
 use crate::codes::{in_order, missing};
 use crate::item::{judge, refill_item};
 use crate::list::{is_null, list, or_default};
-use crate::normal::is_normal;
+use crate::normal::{is_normal, normalized};
 use csvw_columns_core::{Column, Properties};
 use csvw_datatype::{Datatype, Expressions, Facets, Value};
-use csvw_text::{Code, Seq, Text, collapse};
+use csvw_text::{Code, Seq, Text};
 use std::alloc::{AllocError, Global};
 
 fn has_lengths(facets: &Facets) -> bool
@@ -174,7 +174,7 @@ pub fn parse_over(
     if is_normal(properties.datatype.get(), text) {
         return by_separator(expressions, properties, shown, value, faults);
     }
-    let normalized = collapse(alloc, text)?;
+    let normalized = normalized(alloc, properties.datatype.get(), text)?;
     let shown = or_default(properties.default.get().as_str(), normalized.as_str());
     by_separator(expressions, properties, shown, value, faults)
 }

@@ -9,21 +9,8 @@ use csvw_page::push_text;
 use serde_json::Value;
 use std::alloc::{AllocError, Global};
 
-/// The datatypes of the standard that no profile has, each with the one to write in its place.
-const OTHERS: [(&str, &str); 9] = [
-    ("duration", "string"),
-    ("dayTimeDuration", "string"),
-    ("yearMonthDuration", "string"),
-    ("hexBinary", "string"),
-    ("base64Binary", "string"),
-    ("binary", "string"),
-    ("normalizedString", "string"),
-    ("QName", "string"),
-    ("anySimpleType", "string"),
-];
-
-/// The datatypes that there are.
-const NAMES: [&str; 39] = [
+/// The names of the datatypes that there are.
+const NAMES: [&str; 47] = [
     "string",
     "anyURI",
     "boolean",
@@ -63,17 +50,15 @@ const NAMES: [&str; 39] = [
     "gMonth",
     "gMonthDay",
     "gDay",
+    "normalizedString",
+    "QName",
+    "hexBinary",
+    "base64Binary",
+    "binary",
+    "duration",
+    "dayTimeDuration",
+    "yearMonthDuration",
 ];
-
-/// Returns the datatype to write in place of one that no profile has.
-fn instead_of(name: &str) -> Option<&'static str> {
-    for (other, instead) in &OTHERS {
-        if *other == name {
-            return Some(*instead);
-        }
-    }
-    None
-}
 
 /// Adds that a name is that of no datatype, and the one that is near.
 fn push_no_datatype(hints: &mut String, name: &str) -> Result<(), AllocError> {
@@ -98,13 +83,7 @@ fn push_instead(hints: &mut String, name: &str) -> Result<(), AllocError> {
     if Simple::of(name).is_some() {
         return Ok(());
     }
-    match instead_of(name) {
-        Some(instead) => write!(
-            hints,
-            "    the datatype {name} is of the standard, but isn't supported: write {instead}\n"
-        ),
-        None => push_no_datatype(hints, name),
-    }
+    push_no_datatype(hints, name)
 }
 
 /// Whether a pointer is that of the name of a datatype.

@@ -9,6 +9,8 @@ use Rattle.csvw_datatype.specs.declared.simple.Simple.TheVariants as simples
 use Rattle.csvw_datatype.specs.declared.simple.Floating.{Floating}
 use Rattle.csvw_datatype.specs.declared.simple.Floating.TheVariants as floating
 use Rattle.csvw_datatype_core.specs.declared.date_time.Zone.TheVariants as zones
+use Rattle.csvw_binary.specs.declared.binary.BinaryForm.TheVariants as forms
+use Rattle.csvw_duration.specs.declared.value.DurationKind.TheVariants as kinds
 use Rattle.csvw_datatype.specs.declared.simple.TextType.{TextType}
 use Rattle.csvw_datatype.specs.declared.simple.TextType.TheVariants as types
 use Rattle.csvw_datatype.specs.declared.simple.Width.{Width}
@@ -33,10 +35,12 @@ raw_width widths.NegativeInteger = refl
 raw_text_type : (t : TextType) → safe (xsd_type (simples.Other t)) ≡ xsd_type (simples.Other t)
 unfolding safe
 raw_text_type types.Any = refl
+raw_text_type types.Normalized = refl
 raw_text_type types.Token = refl
 raw_text_type types.Language = refl
 raw_text_type types.Name = refl
 raw_text_type types.NameToken = refl
+raw_text_type types.QualifiedName = refl
 raw_text_type types.Xml = refl
 raw_text_type types.Html = refl
 raw_text_type types.Json = refl
@@ -48,6 +52,11 @@ raw_text_type (types.Part parts.YearMonth) = refl
 raw_text_type (types.Part parts.Month) = refl
 raw_text_type (types.Part parts.MonthDay) = refl
 raw_text_type (types.Part parts.Day) = refl
+raw_text_type (types.Binary forms.Hex) = refl
+raw_text_type (types.Binary forms.Base64) = refl
+raw_text_type (types.Duration kinds.Any) = refl
+raw_text_type (types.Duration kinds.YearMonth) = refl
+raw_text_type (types.Duration kinds.DayTime) = refl
 
 raw_floating : (t : Floating) → safe (xsd_type (simples.Floating t)) ≡ xsd_type (simples.Floating t)
 unfolding safe
@@ -70,10 +79,12 @@ raw_type (simples.Floating t) = raw_floating t
 pub raw_iri : (t : TextType) → safe (text_type_iri t) ≡ text_type_iri t
 unfolding safe
 raw_iri types.Any = refl
+raw_iri types.Normalized = refl
 raw_iri types.Token = refl
 raw_iri types.Language = refl
 raw_iri types.Name = refl
 raw_iri types.NameToken = refl
+raw_iri types.QualifiedName = refl
 raw_iri types.Xml = refl
 raw_iri types.Html = refl
 raw_iri types.Json = refl
@@ -85,6 +96,11 @@ raw_iri (types.Part parts.YearMonth) = refl
 raw_iri (types.Part parts.Month) = refl
 raw_iri (types.Part parts.MonthDay) = refl
 raw_iri (types.Part parts.Day) = refl
+raw_iri (types.Binary forms.Hex) = refl
+raw_iri (types.Binary forms.Base64) = refl
+raw_iri (types.Duration kinds.Any) = refl
+raw_iri (types.Duration kinds.YearMonth) = refl
+raw_iri (types.Duration kinds.DayTime) = refl
 
 pub safe_type : (s : Simple) (text joined head name : List ℕ) → text ≡ joined → joined ≡ head ++ name
     → head ≡ codes "http://www.w3.org/2001/XMLSchema#" → name ≡ name_of s

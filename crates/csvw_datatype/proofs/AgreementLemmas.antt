@@ -2,19 +2,16 @@
 use Rattle.std.proofs.Common.{◌≡◌, ◌↔◌, ◌⊎◌, inl, inr, ℕ, ◌≤◌, ◌||◌, ◌&&◌, not, nat_lt, Bool, true, false, Option, Some, None, is_some, refl, arith}
 use Rattle.std.specs.Prelude.{IsTrue}
 use Rattle.std.proofs.lemmas.Bool.Decides.{nat_tests}
-use Rattle.csvw_datatype_core.specs.declared.date_part.DatePart.{DatePart}
 use Rattle.csvw_datatype.specs.declared.value.Value.{Value}
 use Rattle.csvw_datatype.specs.declared.simple.Simple.{Simple}
 use Rattle.csvw_datatype.specs.declared.simple.Simple.TheVariants as simples
-use Rattle.csvw_datatype_core.specs.declared.date_time.Zone.{Zone}
-use Rattle.csvw_datatype.specs.declared.simple.TextType.{TextType}
 use Rattle.csvw_datatype.specs.declared.simple.TextType.TheVariants as types
 use Rattle.csvw_datatype.specs.declared.datatype.Facets.{Facets}
 use Rattle.csvw_datatype.specs.Breaks.{fails, is_below, is_over, is_not_under, has_lengths}
 use Rattle.csvw_datatype.specs.Sound.{lengths_apply, lengths_agree, side_agrees, bounds_agree, first_of}
 use Rattle.csvw_datatype.specs.Strings.{has_length}
 use Rattle.csvw_datatype.specs.Facets.{IsLess, IsAtMost}
-use Rattle.csvw_datatype.specs.Agreement.{IfBoth, AreSame, IsString, LengthsApply, LengthsAgree, BoundsAgree, min_of, max_of}
+use Rattle.csvw_datatype.specs.Agreement.{IfBoth, AreSame, HasLengths, LengthsApply, LengthsAgree, BoundsAgree, min_of, max_of}
 use Rattle.csvw_datatype.proofs.FacetLemmas.{below, up_to}
 
 no : IsTrue false → ⊥
@@ -66,77 +63,43 @@ absent : (o : Option ℕ) → IsTrue (not (is_some o)) ↔ (o ≡ None)
 absent None = (λ h. refl, λ h. refl)
 absent (Some n) = (λ h. absurd (no h), λ h. cc)
 
-none_of_them : (s : Simple) → (s ≡ simples.Text → ⊥) → ((t : TextType) → s ≡ simples.Other t → ⊥) → IsString s → ⊥
-none_of_them s text other (inl e) = text e
-none_of_them s text other (inr (inl e)) = other types.Token e
-none_of_them s text other (inr (inr (inl e))) = other types.Xml e
-none_of_them s text other (inr (inr (inr (inl e)))) = other types.Html e
-none_of_them s text other (inr (inr (inr (inr (inl e))))) = other types.Json e
-none_of_them s text other (inr (inr (inr (inr (inr (inl e)))))) = other types.Language e
-none_of_them s text other (inr (inr (inr (inr (inr (inr (inl e))))))) = other types.Name e
-none_of_them s text other (inr (inr (inr (inr (inr (inr (inr e))))))) = other types.NameToken e
+never : IsTrue false ↔ ⊥
+never = (λ h. cc, λ h. absurd h)
 
-any_is_none : IsString (simples.Other types.Any) → ⊥
-any_is_none (inl e) = cc
-any_is_none (inr (inl e)) = cc
-any_is_none (inr (inr (inl e))) = cc
-any_is_none (inr (inr (inr (inl e)))) = cc
-any_is_none (inr (inr (inr (inr (inl e))))) = cc
-any_is_none (inr (inr (inr (inr (inr (inl e)))))) = cc
-any_is_none (inr (inr (inr (inr (inr (inr (inl e))))))) = cc
-any_is_none (inr (inr (inr (inr (inr (inr (inr e))))))) = cc
+neither_kind : IsTrue false ↔ (⊥ ⊎ ⊥)
+neither_kind = (λ h. absurd (no h), λ h. absurd (elim h [ inl x ↦ x | inr y ↦ y ]))
 
-time_is_none : IsString (simples.Other types.Time) → ⊥
-time_is_none (inl e) = cc
-time_is_none (inr (inl e)) = cc
-time_is_none (inr (inr (inl e))) = cc
-time_is_none (inr (inr (inr (inl e)))) = cc
-time_is_none (inr (inr (inr (inr (inl e))))) = cc
-time_is_none (inr (inr (inr (inr (inr (inl e)))))) = cc
-time_is_none (inr (inr (inr (inr (inr (inr (inl e))))))) = cc
-time_is_none (inr (inr (inr (inr (inr (inr (inr e))))))) = cc
+derived : IsTrue true ↔ (Unit {0} ⊎ ⊥)
+derived = (λ h. inl tt, λ h. refl)
 
-date_time_is_none : (z : Zone) → IsString (simples.Other (types.DateTime z)) → ⊥
-date_time_is_none z (inl e) = cc
-date_time_is_none z (inr (inl e)) = cc
-date_time_is_none z (inr (inr (inl e))) = cc
-date_time_is_none z (inr (inr (inr (inl e)))) = cc
-date_time_is_none z (inr (inr (inr (inr (inl e))))) = cc
-date_time_is_none z (inr (inr (inr (inr (inr (inl e)))))) = cc
-date_time_is_none z (inr (inr (inr (inr (inr (inr (inl e))))))) = cc
-date_time_is_none z (inr (inr (inr (inr (inr (inr (inr e))))))) = cc
+octets : IsTrue true ↔ (⊥ ⊎ Unit {0})
+octets = (λ h. inr tt, λ h. refl)
 
-part_is_none : (p : DatePart) → IsString (simples.Other (types.Part p)) → ⊥
-part_is_none p (inl e) = cc
-part_is_none p (inr (inl e)) = cc
-part_is_none p (inr (inr (inl e))) = cc
-part_is_none p (inr (inr (inr (inl e)))) = cc
-part_is_none p (inr (inr (inr (inr (inl e))))) = cc
-part_is_none p (inr (inr (inr (inr (inr (inl e)))))) = cc
-part_is_none p (inr (inr (inr (inr (inr (inr (inl e))))))) = cc
-part_is_none p (inr (inr (inr (inr (inr (inr (inr e))))))) = cc
-
-is_string : (s : Simple) → IsTrue (has_length s) ↔ IsString s
-is_string simples.Text = (λ h. inl refl, λ h. refl)
-is_string simples.Uri = (λ h. absurd (no h), λ h. absurd (none_of_them simples.Uri (λ e. cc) (λ t e. cc) h))
-is_string simples.Truth = (λ h. absurd (no h), λ h. absurd (none_of_them simples.Truth (λ e. cc) (λ t e. cc) h))
-is_string simples.Whole = (λ h. absurd (no h), λ h. absurd (none_of_them simples.Whole (λ e. cc) (λ t e. cc) h))
-is_string (simples.Derived w) = (λ h. absurd (no h), λ h. absurd (none_of_them (simples.Derived w) (λ e. cc) (λ t e. cc) h))
-is_string simples.Decimal = (λ h. absurd (no h), λ h. absurd (none_of_them simples.Decimal (λ e. cc) (λ t e. cc) h))
-is_string simples.Day = (λ h. absurd (no h), λ h. absurd (none_of_them simples.Day (λ e. cc) (λ t e. cc) h))
-is_string simples.Moment = (λ h. absurd (no h), λ h. absurd (none_of_them simples.Moment (λ e. cc) (λ t e. cc) h))
-is_string (simples.Floating f) = (λ h. absurd (no h), λ h. absurd (none_of_them (simples.Floating f) (λ e. cc) (λ t e. cc) h))
-is_string (simples.Other types.Any) = (λ h. absurd (no h), λ h. absurd (any_is_none h))
-is_string (simples.Other types.Token) = (λ h. inr (inl refl), λ h. refl)
-is_string (simples.Other types.Xml) = (λ h. inr (inr (inl refl)), λ h. refl)
-is_string (simples.Other types.Html) = (λ h. inr (inr (inr (inl refl))), λ h. refl)
-is_string (simples.Other types.Json) = (λ h. inr (inr (inr (inr (inl refl)))), λ h. refl)
-is_string (simples.Other types.Language) = (λ h. inr (inr (inr (inr (inr (inl refl))))), λ h. refl)
-is_string (simples.Other types.Name) = (λ h. inr (inr (inr (inr (inr (inr (inl refl)))))), λ h. refl)
-is_string (simples.Other types.NameToken) = (λ h. inr (inr (inr (inr (inr (inr (inr refl)))))), λ h. refl)
-is_string (simples.Other types.Time) = (λ h. absurd (no h), λ h. absurd (time_is_none h))
-is_string (simples.Other (types.DateTime z)) = (λ h. absurd (no h), λ h. absurd (date_time_is_none z h))
-is_string (simples.Other (types.Part p)) = (λ h. absurd (no h), λ h. absurd (part_is_none p h))
+has_lengths_of : (s : Simple) → IsTrue (has_length s) ↔ HasLengths s
+has_lengths_of simples.Text = (λ h. tt, λ h. refl)
+has_lengths_of simples.Uri = never
+has_lengths_of simples.Truth = never
+has_lengths_of simples.Whole = never
+has_lengths_of (simples.Derived w) = never
+has_lengths_of simples.Decimal = never
+has_lengths_of simples.Day = never
+has_lengths_of simples.Moment = never
+has_lengths_of (simples.Floating f) = never
+has_lengths_of (simples.Other types.Any) = neither_kind
+has_lengths_of (simples.Other types.Normalized) = derived
+has_lengths_of (simples.Other types.Token) = derived
+has_lengths_of (simples.Other types.Language) = derived
+has_lengths_of (simples.Other types.Name) = derived
+has_lengths_of (simples.Other types.NameToken) = derived
+has_lengths_of (simples.Other types.QualifiedName) = neither_kind
+has_lengths_of (simples.Other types.Xml) = derived
+has_lengths_of (simples.Other types.Html) = derived
+has_lengths_of (simples.Other types.Json) = derived
+has_lengths_of (simples.Other types.Time) = neither_kind
+has_lengths_of (simples.Other (types.DateTime z)) = neither_kind
+has_lengths_of (simples.Other (types.Part p)) = neither_kind
+has_lengths_of (simples.Other (types.Binary form)) = octets
+has_lengths_of (simples.Other (types.Duration kind)) = neither_kind
 
 one_of : (a b : Bool) (P Q : Type 0) → IsTrue a ↔ P → IsTrue b ↔ Q → IsTrue (a || b) ↔ (P ⊎ Q)
 one_of true b P Q p q = (λ h. inl (p.0 refl), λ h. refl)
@@ -147,7 +110,7 @@ no_lengths f = none_of_three (is_some f.length) (is_some f.min_length) (is_some 
     (absent f.length) (absent f.min_length) (absent f.max_length)
 
 pub applies : (s : Simple) (f : Facets) → IsTrue (lengths_apply s f) ↔ LengthsApply s f
-applies s f = one_of (has_length s) (not (has_lengths f)) _ _ (is_string s) (no_lengths f)
+applies s f = one_of (has_length s) (not (has_lengths f)) _ _ (has_lengths_of s) (no_lengths f)
 
 pub agree_lengths : (f : Facets) → IsTrue (lengths_agree f) ↔ LengthsAgree f
 agree_lengths f =

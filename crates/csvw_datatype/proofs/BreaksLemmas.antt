@@ -1,6 +1,7 @@
 -- If no facet asks for a length, no length is broken. If no facet is a bound, no bound is broken. Texts and booleans break no bound, and only texts break a
 -- length.
 use Rattle.std.proofs.Common.{◌≡◌, ℕ, List, ◌||◌, Bool, true, false, Option, Some, None, is_some, ◌==◌, not, nat_lt, refl, sym, ap, ◌∙◌}
+use Rattle.csvw_datatype.specs.declared.simple.Simple.{Simple}
 use Rattle.csvw_datatype.specs.declared.value.Value.{Value}
 use Rattle.csvw_datatype.specs.declared.value.Value.TheVariants.{Text, Truth, Number, Day, Moment}
 use Rattle.csvw_datatype.specs.declared.datatype.Facets.{Facets}
@@ -23,16 +24,16 @@ lengths a b c = record { wrong_length = a; too_short = b; too_long = c; below_mi
 all_false : (a b c : Bool) → a ≡ false → b ≡ false → c ≡ false → lengths false false false ≡ lengths a b c
 all_false a b c p q r = rw (p, q, r) refl
 
-pub unmeasured : (v : Value) (f : Facets) → has_lengths f ≡ false
-    → record { wrong_length = false; too_short = false; too_long = false; below_minimum = false; above_maximum = false } ≡ length_breaks v f
+pub unmeasured : (s : Simple) (v : Value) (f : Facets) → has_lengths f ≡ false
+    → record { wrong_length = false; too_short = false; too_long = false; below_minimum = false; above_maximum = false } ≡ length_breaks s v f
 unfolding lengths
-unmeasured v f h =
+unmeasured s v f h =
     let p = or_none (is_some f.length || is_some f.min_length) (is_some f.max_length) h in
     let q = or_none (is_some f.length) (is_some f.min_length) p.0 in
     all_false _ _ _
-    (absent (λ n k. not (n == k)) (length_of v) f.length q.0)
-    (absent (λ n k. nat_lt n k) (length_of v) f.min_length q.1)
-    (absent (λ n k. nat_lt k n) (length_of v) f.max_length p.1)
+    (absent (λ n k. not (n == k)) (length_of s v) f.length q.0)
+    (absent (λ n k. nat_lt n k) (length_of s v) f.min_length q.1)
+    (absent (λ n k. nat_lt k n) (length_of s v) f.max_length p.1)
 
 not_below : (v : Value) (a b c : Option Value) → (is_some a || is_some b || is_some c) ≡ false
     → (is_over a (Some v) || is_over b (Some v) || is_not_under c (Some v)) ≡ false
@@ -51,16 +52,16 @@ not_above v (Some x) b c h = cc
 with_sides : Broken → Bool → Bool → Broken
 with_sides b low high = record b { below_minimum = low; above_maximum = high }
 
-pub unbounded : (v : Value) (f : Facets) → has_bounds f ≡ false → length_breaks v f ≡ breaks v f
+pub unbounded : (s : Simple) (v : Value) (f : Facets) → has_bounds f ≡ false → length_breaks s v f ≡ breaks s v f
 unfolding with_sides
-unbounded v f h =
+unbounded s v f h =
     let p = or_none (is_some f.minimum || is_some f.min_inclusive || is_some f.min_exclusive)
     (is_some f.maximum || is_some f.max_inclusive || is_some f.max_exclusive) h in
     let low = not_below v f.minimum f.min_inclusive f.min_exclusive p.0 in
     let high = not_above v f.maximum f.max_inclusive f.max_exclusive p.1 in
-    sym (ap (λ b. with_sides (length_breaks v f) b
+    sym (ap (λ b. with_sides (length_breaks s v f) b
     (is_over (Some v) f.maximum || is_over (Some v) f.max_inclusive || is_not_under (Some v) f.max_exclusive)) low
-    ∙ ap (λ b. with_sides (length_breaks v f) false b) high)
+    ∙ ap (λ b. with_sides (length_breaks s v f) false b) high)
 
 -- no value is below it or above it, nor is it one itself
 record IsUnordered (v : Value) : Type 0 where
@@ -96,27 +97,27 @@ it_not_under v (Some x) h = h.from x
 none_of : (a b c : Bool) → a ≡ false → b ≡ false → c ≡ false → (a || b || c) ≡ false
 none_of a b c p q r = rw (p, q, r) refl
 
-unordered : (v : Value) (f : Facets) → IsUnordered v → breaks v f ≡ with_sides (length_breaks v f) false false
+unordered : (s : Simple) (v : Value) (f : Facets) → IsUnordered v → breaks s v f ≡ with_sides (length_breaks s v f) false false
 unfolding with_sides
-unordered v f h =
+unordered s v f h =
     let low = none_of _ _ _ (over_it v f.minimum h) (over_it v f.min_inclusive h) (not_under_it v f.min_exclusive h) in
     let high = none_of _ _ _ (it_over v f.maximum h) (it_over v f.max_inclusive h) (it_not_under v f.max_exclusive h) in
-    ap (λ b. with_sides (length_breaks v f) b
+    ap (λ b. with_sides (length_breaks s v f) b
     (is_over (Some v) f.maximum || is_over (Some v) f.max_inclusive || is_not_under (Some v) f.max_exclusive)) low
-    ∙ ap (λ b. with_sides (length_breaks v f) false b) high
+    ∙ ap (λ b. with_sides (length_breaks s v f) false b) high
 
 -- a text without lengths and bounds
-unfaceted_text : (text : List ℕ) (f : Facets) → has_lengths f ≡ false → has_bounds f ≡ false → breaks (Text text) f ≡ unbroken
-unfaceted_text text f lengths bounds = sym (unbounded (Text text) f bounds) ∙ sym (unmeasured (Text text) f lengths)
+unfaceted_text : (s : Simple) (text : List ℕ) (f : Facets) → has_lengths f ≡ false → has_bounds f ≡ false → breaks s (Text text) f ≡ unbroken
+unfaceted_text s text f lengths bounds = sym (unbounded s (Text text) f bounds) ∙ sym (unmeasured s (Text text) f lengths)
 
 neither : (a b : Bool) → (a || b) ≡ false → (a ≡ false) × (b ≡ false)
 neither true b h = cc
 neither false b h = (refl, h)
 
-pub unfaceted : (v : Value) (f : Facets) → is_faceted v f ≡ false → breaks v f ≡ unbroken
+pub unfaceted : (s : Simple) (v : Value) (f : Facets) → is_faceted v f ≡ false → breaks s v f ≡ unbroken
 unfolding with_sides
-unfaceted (Text text) f h = let none = neither (has_lengths f) (has_bounds f) h in unfaceted_text text f none.0 none.1
-unfaceted (Truth b) f h = unordered (Truth b) f (truths b)
-unfaceted (Number z) f h = sym (unbounded (Number z) f h)
-unfaceted (Day day) f h = sym (unbounded (Day day) f h)
-unfaceted (Moment moment) f h = sym (unbounded (Moment moment) f h)
+unfaceted s (Text text) f h = let none = neither (has_lengths f) (has_bounds f) h in unfaceted_text s text f none.0 none.1
+unfaceted s (Truth b) f h = unordered s (Truth b) f (truths b)
+unfaceted s (Number z) f h = sym (unbounded s (Number z) f h)
+unfaceted s (Day day) f h = sym (unbounded s (Day day) f h)
+unfaceted s (Moment moment) f h = sym (unbounded s (Moment moment) f h)

@@ -1,17 +1,17 @@
 -- The broken facets are those that are broken by the standards' words.
-use Rattle.std.proofs.Common.{◌≢◌, ◌↔◌, ◌⊎◌, inl, inr, ℕ, ◌<◌, ◌||◌, ◌==◌, not, nat_lt, Bool, true, false, Option, Some, None, length, refl, arith, ℤ}
+use Rattle.std.proofs.Common.{◌≢◌, ◌↔◌, ◌⊎◌, inl, inr, ℕ, ◌<◌, ◌||◌, ◌==◌, not, nat_lt, Bool, true, false, Option, Some, None, refl, arith, ℤ}
 use Rattle.std.proofs.Common.{◌<ℤ◌, ◌≤ℤ◌}
 use Rattle.std.specs.Prelude.{IsTrue}
-use Rattle.std.specs.Str.{chars}
 use lib.Signed.{lt_z}
 use Rattle.std.specs.Ordering.{is_ge, is_gt, is_some_and}
 use Rattle.csvw_double.specs.Order.{double_cmp}
 use Rattle.std.proofs.lemmas.Bool.Decides.{nat_tests}
 use Rattle.std.proofs.lemmas.Int.{ints, by_lt_z}
+use Rattle.csvw_datatype.specs.declared.simple.Simple.{Simple}
 use Rattle.csvw_datatype.specs.declared.value.Value.{Value}
 use Rattle.csvw_datatype.specs.declared.value.Value.TheVariants.{Text, Truth, Number, Day, Moment}
 use Rattle.csvw_datatype.specs.declared.datatype.Facets.{Facets}
-use Rattle.csvw_datatype.specs.Breaks.{is_below, is_up_to, length_of, fails, is_over, is_not_under, breaks}
+use Rattle.csvw_datatype.specs.Breaks.{is_below, is_up_to, length_of, text_length, fails, is_over, is_not_under, breaks}
 use Rattle.csvw_datatype.specs.Facets.{IsThereAnd, HasLength, IsLess, IsAtMost, SaysWhatBreaks}
 
 -- tests
@@ -87,18 +87,18 @@ up_to (Truth a) w = never
 
 -- facets
 
-lengths : (test : ℕ → ℕ → Bool) (P : ℕ → ℕ → Type 0) (v : Value) (o : Option ℕ) → ((n k : ℕ) → IsTrue (test n k) ↔ P n k)
-    → IsTrue (fails test (length_of v) o) ↔ IsThereAnd o (λ k. HasLength v (λ n. P n k))
-lengths test P (Text t) None h = never
-lengths test P (Truth t) None h = never
-lengths test P (Number t) None h = never
-lengths test P (Day t) None h = never
-lengths test P (Moment t) None h = never
-lengths test P (Text t) (Some k) h = h (length (chars t)) k
-lengths test P (Truth t) (Some k) h = never
-lengths test P (Number t) (Some k) h = never
-lengths test P (Day t) (Some k) h = never
-lengths test P (Moment t) (Some k) h = never
+lengths : (test : ℕ → ℕ → Bool) (P : ℕ → ℕ → Type 0) (s : Simple) (v : Value) (o : Option ℕ) → ((n k : ℕ) → IsTrue (test n k) ↔ P n k)
+    → IsTrue (fails test (length_of s v) o) ↔ IsThereAnd o (λ k. HasLength s v (λ n. P n k))
+lengths test P s (Text t) None h = never
+lengths test P s (Truth t) None h = never
+lengths test P s (Number t) None h = never
+lengths test P s (Day t) None h = never
+lengths test P s (Moment t) None h = never
+lengths test P s (Text t) (Some k) h = h (text_length s t) k
+lengths test P s (Truth t) (Some k) h = never
+lengths test P s (Number t) (Some k) h = never
+lengths test P s (Day t) (Some k) h = never
+lengths test P s (Moment t) (Some k) h = never
 
 under : (v : Value) (o : Option Value) → IsTrue (is_over o (Some v)) ↔ IsThereAnd o (λ b. IsLess v b)
 under v None = never
@@ -122,11 +122,11 @@ any false true c P Q R p q r = (λ h. inr (inl (q.0 refl)), λ h. refl)
 any false false c P Q R p q r =
     (λ h. inr (inr (r.0 h)), λ h. elim h [ inl x ↦ absurd (never.0 (p.1 x)) | inr y ↦ elim y [ inl x ↦ absurd (never.0 (q.1 x)) | inr z ↦ r.1 z ] ])
 
-pub says_what_breaks : (v : Value) (f : Facets) → SaysWhatBreaks v f (breaks v f)
-says_what_breaks v f = record {
-  length = lengths (λ n k. not (n == k)) (λ n k. n ≢ k) v f.length differs;
-  min_length = lengths (λ n k. nat_lt n k) (λ n k. n < k) v f.min_length is_short;
-  max_length = lengths (λ n k. nat_lt k n) (λ n k. k < n) v f.max_length (λ n k. is_short k n);
+pub says_what_breaks : (s : Simple) (v : Value) (f : Facets) → SaysWhatBreaks s v f (breaks s v f)
+says_what_breaks s v f = record {
+  length = lengths (λ n k. not (n == k)) (λ n k. n ≢ k) s v f.length differs;
+  min_length = lengths (λ n k. nat_lt n k) (λ n k. n < k) s v f.min_length is_short;
+  max_length = lengths (λ n k. nat_lt k n) (λ n k. k < n) s v f.max_length (λ n k. is_short k n);
   minimum = any _ _ _ _ _ _ (under v f.minimum) (under v f.min_inclusive) (not_above v f.min_exclusive);
   maximum = any _ _ _ _ _ _ (over v f.maximum) (over v f.max_inclusive) (not_below v f.max_exclusive);
 }

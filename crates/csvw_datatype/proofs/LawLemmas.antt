@@ -42,7 +42,7 @@ use Rattle.csvw_datatype.specs.declared.format.NumberFormat.{NumberFormat}
 use Rattle.csvw_datatype.specs.declared.simple.Floating.{Floating}
 use Rattle.csvw_datatype.specs.DoubleFormats.{HasNoPlain, IsPlainOf, at_exponent, exponent, is_special, mantissa, mantissa_rules}
 use Rattle.csvw_datatype.specs.Formats.{IsFormatOf, fits_format, fits_pattern, format_rules, is_described}
-use Rattle.csvw_datatype.specs.TextValues.{text_value, text_if, kept, date_time_kept}
+use Rattle.csvw_datatype.specs.TextValues.{text_value, text_if, kept, kept_if, date_time_kept}
 use Rattle.csvw_datatype.specs.Widths.{IsInWidth}
 use Rattle.csvw_datatype.specs.Reads.{SpellsTruth, whole_rules, decimal_rules, date_format, moment_format, ReadsAs, ReadsNumberAs, MisreadAs, MisreadsNumber, number_code, double_code, ReadsPlain, ReadsFormatted, ReadsDouble, MisreadsPlain, MisreadsFormatted, MisreadsDouble}
 use Rattle.csvw_datatype.specs.Sound.{IsNumberSize, IsWholeNumber, IsBoundOf, has_bounds}
@@ -183,7 +183,7 @@ one_plain one f text p q l (inl a) (inl b) = a.1 ∙ sym b.1
 one_plain one f text p q l (inl a) (inr b) = absurd (no_both (is_special text) a.0 b.0)
 one_plain one f text p q l (inr a) (inl b) = absurd (no_both (is_special text) b.0 a.0)
 one_plain one f text p q l (inr a) (inr b) =
-    let parts : Option (List ℕ × List ℕ) = at_exponent text in
+    let parts : Option (List ℕ × List ℕ) = at_exponent f text in
     let same : a.1.0 ≡ b.1.0 = one (mantissa_rules f parts) (chars (mantissa text parts)) a.1.0 b.1.0 (mantissa_lawful f parts l) a.1.1 b.1.1 in
     a.1.2 ∙ ap (λ z. number_form z ++ exponent parts) same ∙ sym b.1.2
 
@@ -210,7 +210,7 @@ plain_or_fault text v code r m = double_or_fault text r.0 m.0 r.1 m.1
 plain_or_none : (f : NumberFormat) (text plain : List ℕ) (fault : NumberFault) → IsPlainOf f text plain → HasNoPlain f text fault → ⊥
 plain_or_none f text plain fault (inl a) h = no_both (is_special text) a.0 h.0
 plain_or_none f text plain fault (inr a) h =
-    not_misread (mantissa_rules f (at_exponent text)) (chars (mantissa text (at_exponent text))) a.1.0 fault a.1.1 h.1
+    not_misread (mantissa_rules f (at_exponent f text)) (chars (mantissa text (at_exponent f text))) a.1.0 fault a.1.1 h.1
 
 formatted_or_code : OnePlain → (f : NumberFormat) (text : List ℕ) (v : Value) (code : Code) → IsLawful (format_rules f) → ReadsFormatted f text v
     → MisreadsFormatted f text code → ⊥
@@ -233,7 +233,7 @@ plain_code : (text : List ℕ) (c d : Code) → MisreadsPlain text c → Misread
 plain_code text c d p q = p.2 ∙ ap double_code (one_double_fault text p.0 q.0 p.1 q.1) ∙ sym q.2
 
 none_fault : (f : NumberFormat) (text : List ℕ) (a b : NumberFault) → HasNoPlain f text a → HasNoPlain f text b → a ≡ b
-none_fault f text a b p q = one_fault (mantissa_rules f (at_exponent text)) (chars (mantissa text (at_exponent text))) a b p.1 q.1
+none_fault f text a b p q = one_fault (mantissa_rules f (at_exponent f text)) (chars (mantissa text (at_exponent f text))) a b p.1 q.1
 
 formatted_code : OnePlain → (f : NumberFormat) (text : List ℕ) (c d : Code) → IsLawful (format_rules f) → MisreadsFormatted f text c
     → MisreadsFormatted f text d → c ≡ d
@@ -367,6 +367,10 @@ kept_writable : (o : Option (List ℕ)) (v : Value) → kept o ≡ Some v → Is
 kept_writable None v e = cc
 kept_writable (Some text) v e = at_value (λ v. IsWritable v) v (values.Text text) (sym (same_value e)) tt
 
+kept_if_writable : (is_one : Bool) (o : Option (List ℕ)) (v : Value) → kept_if is_one o ≡ Some v → IsWritable v
+kept_if_writable true o v e = kept_writable o v e
+kept_if_writable false o v e = cc
+
 date_time_writable : (o : Option DateTime) (v : Value) → ((moment : ℤ) → o ≡ Some (date_times.Second moment) → IsMomentNumber moment)
     → date_time_kept o ≡ Some v → IsWritable v
 date_time_writable None v range e = cc
@@ -377,16 +381,20 @@ date_time_writable (Some (date_times.Written text)) v range e = at_value (λ v. 
 text_writable : DateTimesInRange → (t : TextType) (f : Option Format) (text : List ℕ) (v : Value) → text_value t f text ≡ Some v → IsWritable v
 unfolding text_value
 text_writable zoned types.Any f text v e = if_writable _ text v e
+text_writable zoned types.Normalized f text v e = if_writable _ text v e
 text_writable zoned types.Token f text v e = if_writable _ text v e
 text_writable zoned types.Language f text v e = if_writable _ text v e
 text_writable zoned types.Name f text v e = if_writable _ text v e
 text_writable zoned types.NameToken f text v e = if_writable _ text v e
+text_writable zoned types.QualifiedName f text v e = if_writable _ text v e
 text_writable zoned types.Xml f text v e = if_writable _ text v e
 text_writable zoned types.Html f text v e = if_writable _ text v e
 text_writable zoned types.Json f text v e = if_writable _ text v e
 text_writable zoned types.Time f text v e = kept_writable _ v e
 text_writable zoned (types.DateTime zone) f text v e = date_time_writable _ v (zoned zone text) e
 text_writable zoned (types.Part part) f text v e = kept_writable _ v e
+text_writable zoned (types.Binary form) f text v e = kept_if_writable _ _ v e
+text_writable zoned (types.Duration kind) f text v e = kept_if_writable _ _ v e
 
 plain_writable : (text : List ℕ) (v : Value) → ReadsPlain text v → IsWritable v
 plain_writable text v r = at_value (λ v. IsWritable v) v (values.Text r.0) r.2 tt

@@ -2,6 +2,7 @@ mod BreaksLemmas
 mod CharacterLemmas
 mod BarLemmas
 mod FormatLemmas
+mod SplitLemmas
 mod ExponentLemmas
 mod LawLemmas
 mod OneForm

@@ -4,6 +4,7 @@ use Rattle.std.specs.Prelude.{◌≡◌, ◌⊎◌, ◌≤◌, Option, None, IfS
 use Rattle.csvw_datatype.specs.declared.value.Value.{Value}
 use Rattle.csvw_datatype.specs.declared.simple.Simple.{Simple}
 use Rattle.csvw_datatype.specs.declared.simple.Simple.TheVariants as simples
+use Rattle.csvw_datatype.specs.declared.simple.TextType.{TextType}
 use Rattle.csvw_datatype.specs.declared.simple.TextType.TheVariants as types
 use Rattle.csvw_datatype.specs.declared.datatype.Facets.{Facets}
 use Rattle.csvw_datatype.specs.Sound.{first_of}
@@ -17,13 +18,31 @@ IfBoth a b P = IfSome a (λ x. IfSome b (λ y. P x y))
 abbrev pub AreSame : Value → Value → Type 0
 AreSame a b = (IsLess a b → ⊥) × (IsLess b a → ⊥)
 
--- length, minLength and maxLength are for string and the types derived from it
-abbrev pub IsString : Simple → Type 0
-IsString s = (s ≡ simples.Text) ⊎ (s ≡ simples.Other types.Token) ⊎ (s ≡ simples.Other types.Xml) ⊎ (s ≡ simples.Other types.Html)
-    ⊎ (s ≡ simples.Other types.Json) ⊎ (s ≡ simples.Other types.Language) ⊎ (s ≡ simples.Other types.Name) ⊎ (s ≡ simples.Other types.NameToken)
+-- the types that are derived from string
+abbrev pub IsDerivedString : TextType → Type 0
+IsDerivedString types.Normalized = Unit {0}
+IsDerivedString types.Token = Unit {0}
+IsDerivedString types.Language = Unit {0}
+IsDerivedString types.Name = Unit {0}
+IsDerivedString types.NameToken = Unit {0}
+IsDerivedString types.Xml = Unit {0}
+IsDerivedString types.Html = Unit {0}
+IsDerivedString types.Json = Unit {0}
+IsDerivedString t = ⊥
+
+-- a type of octets
+abbrev pub IsBinary : TextType → Type 0
+IsBinary (types.Binary form) = Unit {0}
+IsBinary t = ⊥
+
+-- length, minLength and maxLength are for string, the types derived from it and the types of octets
+abbrev pub HasLengths : Simple → Type 0
+HasLengths simples.Text = Unit {0}
+HasLengths (simples.Other t) = IsDerivedString t ⊎ IsBinary t
+HasLengths s = ⊥
 
 abbrev pub LengthsApply : Simple → Facets → Type 0
-LengthsApply s f = IsString s ⊎ ((f.length ≡ None) × (f.min_length ≡ None) × (f.max_length ≡ None))
+LengthsApply s f = HasLengths s ⊎ ((f.length ≡ None) × (f.min_length ≡ None) × (f.max_length ≡ None))
 
 -- minLength isn't greater than maxLength, and length is neither less than minLength nor greater than maxLength
 pub record LengthsAgree (f : Facets) : Type 0 where

@@ -1,10 +1,14 @@
 -- The facets that a value breaks (Metadata Vocabulary for Tabular Data, section 5.11.2; Model for Tabular Data, sections 4.6.1
 -- and 4.6.2).
-use Rattle.std.specs.Prelude.{ℕ, ◌==◌, ◌||◌, nat_lt, not, Bool, false, Option, Some, None, is_some, length}
+use Rattle.std.specs.Prelude.{ℕ, ◌==◌, ◌||◌, nat_lt, not, Bool, false, Option, Some, None, is_some, List, length}
 use Rattle.std.specs.Str.{chars}
 use lib.Signed.{lt_z}
 use Rattle.std.specs.Ordering.{is_ge, is_gt, is_some_and}
 use Rattle.csvw_double.specs.Order.{double_cmp}
+use Rattle.csvw_binary.specs.Binaries.{octet_count}
+use Rattle.csvw_datatype.specs.declared.simple.Simple.{Simple}
+use Rattle.csvw_datatype.specs.declared.simple.Simple.TheVariants as simples
+use Rattle.csvw_datatype.specs.declared.simple.TextType.TheVariants as types
 use Rattle.csvw_datatype.specs.declared.value.Value.{Value}
 use Rattle.csvw_datatype.specs.declared.value.Value.TheVariants.{Text, Truth, Number, Day, Moment}
 use Rattle.csvw_datatype.specs.declared.datatype.Facets.{Facets}
@@ -40,10 +44,15 @@ is_up_to (Moment a) (Moment b) = not (lt_z b a)
 is_up_to (Text a) (Text b) = not (is_some_and is_gt (double_cmp a b))
 is_up_to _ _ = false
 
--- how many characters a text has
-abbrev pub length_of : Value → Option ℕ
-length_of (Text text) = Some (length (chars text))
-length_of _ = None
+-- how many octets the text of a type of octets writes, or how many characters any other text has
+abbrev pub text_length : Simple → List ℕ → ℕ
+text_length (simples.Other (types.Binary form)) text = octet_count form text
+text_length _ text = length (chars text)
+
+-- the length of a text
+abbrev pub length_of : Simple → Value → Option ℕ
+length_of s (Text text) = Some (text_length s text)
+length_of s _ = None
 
 -- both are there, and the test holds of them
 abbrev pub fails : {A B : Type 0} → (A → B → Bool) → Option A → Option B → Bool
@@ -69,17 +78,17 @@ has_bounds f =
     || (is_some f.maximum || is_some f.max_inclusive || is_some f.max_exclusive)
 
 -- the lengths alone
-abbrev pub length_breaks : Value → Facets → Broken
-length_breaks v f = record {
-  wrong_length = fails (λ n k. not (n == k)) (length_of v) f.length;
-  too_short = fails (λ n k. nat_lt n k) (length_of v) f.min_length;
-  too_long = fails (λ n k. nat_lt k n) (length_of v) f.max_length;
+abbrev pub length_breaks : Simple → Value → Facets → Broken
+length_breaks s v f = record {
+  wrong_length = fails (λ n k. not (n == k)) (length_of s v) f.length;
+  too_short = fails (λ n k. nat_lt n k) (length_of s v) f.min_length;
+  too_long = fails (λ n k. nat_lt k n) (length_of s v) f.max_length;
   below_minimum = false;
   above_maximum = false;
 }
 
-abbrev pub breaks : Value → Facets → Broken
-breaks v f = record (length_breaks v f) {
+abbrev pub breaks : Simple → Value → Facets → Broken
+breaks s v f = record (length_breaks s v f) {
   below_minimum = is_over f.minimum (Some v) || is_over f.min_inclusive (Some v) || is_not_under f.min_exclusive (Some v);
   above_maximum = is_over (Some v) f.maximum || is_over (Some v) f.max_inclusive || is_not_under (Some v) f.max_exclusive;
 }

@@ -1,5 +1,5 @@
 -- Numbers with an exponent in a format: the text of XML Schema that a text writes (Model for Tabular Data, section 6.4.2).
-use Rattle.std.specs.Prelude.{◌≡◌, ℕ, ◌⊎◌, ◌==◌, Bool, true, false, not, Option, Some, None, is_some, option_map, List, [], ◌∷◌, ◌++◌, if◌then◌else◌, ℤ}
+use Rattle.std.specs.Prelude.{◌≡◌, ℕ, ◌⊎◌, Bool, true, false, not, Option, Some, None, is_some, List, [], ◌∷◌, ◌++◌, ℤ}
 use Rattle.std.specs.Str.{chars}
 use Rattle.csvw_datatype_core.specs.declared.number.NumberRules.{NumberRules}
 use Rattle.csvw_datatype_core.specs.declared.number.NumberFault.{NumberFault}
@@ -7,12 +7,17 @@ use Rattle.csvw_datatype_core.specs.Forms.{number_form}
 use Rattle.csvw_datatype_core.specs.Misread.{MisreadNumber}
 use Rattle.csvw_datatype_core.specs.Numbers.{ReadsNumber}
 use Rattle.csvw_double.specs.Forms.{special_form}
+use Rattle.csvw_datatype_core.specs.declared.number_pattern.NumberPattern.{NumberPattern}
 use Rattle.csvw_datatype.specs.declared.format.NumberFormat.{NumberFormat}
+use Rattle.csvw_datatype.specs.Splits.{parts_at}
 
--- the text before its first "E" and the text after it, if it has one
-abbrev pub at_exponent : List ℕ → Option (List ℕ × List ℕ)
-at_exponent [] = None
-at_exponent (b ∷ bs) = if b == 69 then Some ([], bs) else option_map (λ x. (b ∷ x.0, x.1)) (at_exponent bs)
+-- The text before the first "E" and the text after it, if there is one. A pattern has no exponent, so an "E" is no exponent there.
+abbrev pub exponent_by : Option NumberPattern → List ℕ → Option (List ℕ × List ℕ)
+exponent_by None text = parts_at 69 text
+exponent_by (Some p) text = None
+
+abbrev pub at_exponent : NumberFormat → List ℕ → Option (List ℕ × List ℕ)
+at_exponent f text = exponent_by f.pattern text
 
 -- how a number is written before its exponent: it has a mark only if it has no exponent
 abbrev pub mantissa_rules : NumberFormat → Option (List ℕ × List ℕ) → NumberRules
@@ -40,7 +45,7 @@ IsSameNumber f text parts plain =
 -- the text of XML Schema that a text in the format writes
 abbrev pub IsPlainOf : NumberFormat → List ℕ → List ℕ → Type 0
 IsPlainOf f text plain =
-    ((is_special text ≡ true) × (plain ≡ text)) ⊎ ((is_special text ≡ false) × IsSameNumber f text (at_exponent text) plain)
+    ((is_special text ≡ true) × (plain ≡ text)) ⊎ ((is_special text ≡ false) × IsSameNumber f text (at_exponent f text) plain)
 
 -- the parts of a text write no number, for this reason
 abbrev pub IsNoNumber : NumberFormat → List ℕ → Option (List ℕ × List ℕ) → NumberFault → Type 0
@@ -48,4 +53,4 @@ IsNoNumber f text parts fault = MisreadNumber (mantissa_rules f parts) (chars (m
 
 -- the text before the exponent is no number of the format
 abbrev pub HasNoPlain : NumberFormat → List ℕ → NumberFault → Type 0
-HasNoPlain f text fault = (is_special text ≡ false) × IsNoNumber f text (at_exponent text) fault
+HasNoPlain f text fault = (is_special text ≡ false) × IsNoNumber f text (at_exponent f text) fault

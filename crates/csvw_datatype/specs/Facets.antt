@@ -1,23 +1,24 @@
 -- The values that keep each facet, in the standards' words (Model for Tabular Data, sections 4.6.1 and 4.6.2; Metadata Vocabulary
 -- for Tabular Data, section 5.11.2; XML Schema Part 2, section 4.3).
-use Rattle.std.specs.Prelude.{◌≢◌, ◌↔◌, ◌⊎◌, ℕ, ◌<◌, IsTrue, Option, Some, None, length, ◌<ℤ◌, ◌≤ℤ◌}
-use Rattle.std.specs.Str.{chars}
+use Rattle.std.specs.Prelude.{◌≢◌, ◌↔◌, ◌⊎◌, ℕ, ◌<◌, IsTrue, Option, Some, None, ◌<ℤ◌, ◌≤ℤ◌}
 use Rattle.std.specs.Ordering.{is_ge, is_gt, is_some_and}
 use Rattle.csvw_double.specs.Order.{double_cmp}
+use Rattle.csvw_datatype.specs.declared.simple.Simple.{Simple}
 use Rattle.csvw_datatype.specs.declared.value.Value.{Value}
 use Rattle.csvw_datatype.specs.declared.value.Value.TheVariants.{Text, Number, Day, Moment}
 use Rattle.csvw_datatype.specs.declared.datatype.Facets.{Facets}
 use Rattle.csvw_datatype.specs.declared.facets.Broken.{Broken}
+use Rattle.csvw_datatype.specs.Breaks.{text_length}
 
 -- the facet is there, and this holds of it
 abbrev pub IsThereAnd : {A : Type 0} → Option A → (A → Type 0) → Type 0
 IsThereAnd None P = ⊥
 IsThereAnd (Some x) P = P x
 
--- this holds of the value's length, which is its number of characters; a number, a truth, a day and a moment have none
-abbrev pub HasLength : Value → (ℕ → Type 0) → Type 0
-HasLength (Text text) P = P (length (chars text))
-HasLength _ P = ⊥
+-- this holds of the length of a value of a type: its number of octets, or of characters; a number, a truth, a day and a moment have none
+abbrev pub HasLength : Simple → Value → (ℕ → Type 0) → Type 0
+HasLength s (Text text) P = P (text_length s text)
+HasLength s _ P = ⊥
 
 -- A number, a day or a moment is less than another. A text is a double here, and not greater than or equal to another: NaN has no
 -- order, and a value without an order is outside of each range (XML Schema Part 2, section 3.3.5).
@@ -37,16 +38,16 @@ IsAtMost (Text a) (Text b) = IsTrue (is_some_and is_gt (double_cmp a b)) → ⊥
 IsAtMost _ _ = ⊥
 
 -- length: the exact length of the value
-abbrev pub HasOtherLength : Value → Facets → Type 0
-HasOtherLength v f = IsThereAnd f.length (λ k. HasLength v (λ n. n ≢ k))
+abbrev pub HasOtherLength : Simple → Value → Facets → Type 0
+HasOtherLength s v f = IsThereAnd f.length (λ k. HasLength s v (λ n. n ≢ k))
 
 -- minLength: the minimum length of the value
-abbrev pub IsShorter : Value → Facets → Type 0
-IsShorter v f = IsThereAnd f.min_length (λ k. HasLength v (λ n. n < k))
+abbrev pub IsShorter : Simple → Value → Facets → Type 0
+IsShorter s v f = IsThereAnd f.min_length (λ k. HasLength s v (λ n. n < k))
 
 -- maxLength: the maximum length of the value
-abbrev pub IsLonger : Value → Facets → Type 0
-IsLonger v f = IsThereAnd f.max_length (λ k. HasLength v (λ n. k < n))
+abbrev pub IsLonger : Simple → Value → Facets → Type 0
+IsLonger s v f = IsThereAnd f.max_length (λ k. HasLength s v (λ n. k < n))
 
 -- minimum and minInclusive: the minimum valid value; minExclusive: the minimum value, itself not valid
 abbrev pub IsBelowMinimum : Value → Facets → Type 0
@@ -57,9 +58,9 @@ abbrev pub IsAboveMaximum : Value → Facets → Type 0
 IsAboveMaximum v f = IsThereAnd f.maximum (λ b. IsLess b v) ⊎ (IsThereAnd f.max_inclusive (λ b. IsLess b v) ⊎ IsThereAnd f.max_exclusive (λ b. IsAtMost b v))
 
 -- each code is set exactly if the value breaks one of its facets
-pub record SaysWhatBreaks (v : Value) (f : Facets) (broken : Broken) : Type 0 where
-  pub length : IsTrue broken.wrong_length ↔ HasOtherLength v f
-  pub min_length : IsTrue broken.too_short ↔ IsShorter v f
-  pub max_length : IsTrue broken.too_long ↔ IsLonger v f
+pub record SaysWhatBreaks (s : Simple) (v : Value) (f : Facets) (broken : Broken) : Type 0 where
+  pub length : IsTrue broken.wrong_length ↔ HasOtherLength s v f
+  pub min_length : IsTrue broken.too_short ↔ IsShorter s v f
+  pub max_length : IsTrue broken.too_long ↔ IsLonger s v f
   pub minimum : IsTrue broken.below_minimum ↔ IsBelowMinimum v f
   pub maximum : IsTrue broken.above_maximum ↔ IsAboveMaximum v f

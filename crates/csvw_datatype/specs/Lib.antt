@@ -5,6 +5,8 @@ pub mod Strings
 pub mod Widths
 pub mod Formats
 pub mod Breaks
+pub mod Splits
+pub mod QualifiedNames
 pub mod TextValues
 pub mod DoubleFormats
 pub mod Reads

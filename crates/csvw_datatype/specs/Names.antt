@@ -5,11 +5,16 @@ use Rattle.csvw_datatype.specs.declared.simple.Simple.TheVariants.{Text, Truth, 
 use Rattle.csvw_datatype.specs.declared.simple.Floating.{Floating as FloatingType}
 use Rattle.csvw_datatype.specs.declared.simple.Floating.TheVariants.{Double, Float}
 use Rattle.csvw_datatype.specs.declared.simple.TextType.{TextType}
-use Rattle.csvw_datatype.specs.declared.simple.TextType.TheVariants.{Any, Token, Language, Name, NameToken, Xml, Html, Json, Time, DateTime, Part}
+use Rattle.csvw_datatype.specs.declared.simple.TextType.TheVariants.{Any, Normalized, Token, Language, Name, NameToken, QualifiedName, Xml, Html, Json}
+use Rattle.csvw_datatype.specs.declared.simple.TextType.TheVariants.{Time, DateTime, Part, Binary, Duration}
 use Rattle.csvw_datatype_core.specs.declared.date_part.DatePart.{DatePart}
 use Rattle.csvw_datatype_core.specs.declared.date_part.DatePart.TheVariants as parts
 use Rattle.csvw_datatype_core.specs.declared.date_time.Zone.{Zone}
 use Rattle.csvw_datatype_core.specs.declared.date_time.Zone.TheVariants as zones
+use Rattle.csvw_binary.specs.declared.binary.BinaryForm.{BinaryForm}
+use Rattle.csvw_binary.specs.declared.binary.BinaryForm.TheVariants as forms
+use Rattle.csvw_duration.specs.declared.value.DurationKind.{DurationKind}
+use Rattle.csvw_duration.specs.declared.value.DurationKind.TheVariants as kinds
 use Rattle.csvw_datatype.specs.declared.simple.Width.{Width}
 use Rattle.csvw_datatype.specs.declared.simple.Width.TheVariants.{Long, Int, Short, Byte, UnsignedLong, UnsignedInt, UnsignedShort, UnsignedByte}
 use Rattle.csvw_datatype.specs.declared.simple.Width.TheVariants.{NonNegativeInteger, PositiveInteger, NonPositiveInteger, NegativeInteger}
@@ -48,23 +53,42 @@ abbrev pub date_time_name : Zone → List ℕ
 date_time_name zones.Optional = codes "dateTime"
 date_time_name zones.Required = codes "dateTimeStamp"
 
+abbrev pub binary_name : BinaryForm → List ℕ
+binary_name forms.Hex = codes "hexBinary"
+binary_name forms.Base64 = codes "base64Binary"
+
+-- the form has this name, or its other name
+abbrev pub IsBinaryNamed : List ℕ → BinaryForm → Type 0
+IsBinaryNamed name forms.Hex = name ≡ codes "hexBinary"
+IsBinaryNamed name forms.Base64 = (name ≡ codes "base64Binary") ⊎ (name ≡ codes "binary")
+
+abbrev pub duration_name : DurationKind → List ℕ
+duration_name kinds.Any = codes "duration"
+duration_name kinds.YearMonth = codes "yearMonthDuration"
+duration_name kinds.DayTime = codes "dayTimeDuration"
+
 abbrev pub text_type_name : TextType → List ℕ
 text_type_name Any = codes "anyAtomicType"
+text_type_name Normalized = codes "normalizedString"
 text_type_name Token = codes "token"
 text_type_name Language = codes "language"
 text_type_name Name = codes "Name"
 text_type_name NameToken = codes "NMTOKEN"
+text_type_name QualifiedName = codes "QName"
 text_type_name Xml = codes "xml"
 text_type_name Html = codes "html"
 text_type_name Json = codes "json"
 text_type_name Time = codes "time"
 text_type_name (DateTime zone) = date_time_name zone
 text_type_name (Part part) = part_name part
+text_type_name (Binary form) = binary_name form
+text_type_name (Duration kind) = duration_name kind
 
 -- The type has this name, or its other name. The type that `dateTime` names has no zones.
 abbrev pub IsTextTypeNamed : List ℕ → TextType → Type 0
 IsTextTypeNamed name (DateTime zones.Optional) = ⊥
 IsTextTypeNamed name Any = (name ≡ codes "anyAtomicType") ⊎ (name ≡ codes "any")
+IsTextTypeNamed name (Binary form) = IsBinaryNamed name form
 IsTextTypeNamed name t = name ≡ text_type_name t
 
 -- xml, html and json have IRIs of their own
@@ -79,18 +103,31 @@ abbrev pub date_time_iri : Zone → List ℕ
 date_time_iri zones.Optional = codes "http://www.w3.org/2001/XMLSchema#dateTime"
 date_time_iri zones.Required = codes "http://www.w3.org/2001/XMLSchema#dateTimeStamp"
 
+abbrev pub binary_iri : BinaryForm → List ℕ
+binary_iri forms.Hex = codes "http://www.w3.org/2001/XMLSchema#hexBinary"
+binary_iri forms.Base64 = codes "http://www.w3.org/2001/XMLSchema#base64Binary"
+
+abbrev pub duration_iri : DurationKind → List ℕ
+duration_iri kinds.Any = codes "http://www.w3.org/2001/XMLSchema#duration"
+duration_iri kinds.YearMonth = codes "http://www.w3.org/2001/XMLSchema#yearMonthDuration"
+duration_iri kinds.DayTime = codes "http://www.w3.org/2001/XMLSchema#dayTimeDuration"
+
 abbrev pub text_type_iri : TextType → List ℕ
 text_type_iri Any = codes "http://www.w3.org/2001/XMLSchema#anyAtomicType"
+text_type_iri Normalized = codes "http://www.w3.org/2001/XMLSchema#normalizedString"
 text_type_iri Token = codes "http://www.w3.org/2001/XMLSchema#token"
 text_type_iri Language = codes "http://www.w3.org/2001/XMLSchema#language"
 text_type_iri Name = codes "http://www.w3.org/2001/XMLSchema#Name"
 text_type_iri NameToken = codes "http://www.w3.org/2001/XMLSchema#NMTOKEN"
+text_type_iri QualifiedName = codes "http://www.w3.org/2001/XMLSchema#QName"
 text_type_iri Xml = codes "http://www.w3.org/1999/02/22-rdf-syntax-ns#XMLLiteral"
 text_type_iri Html = codes "http://www.w3.org/1999/02/22-rdf-syntax-ns#HTML"
 text_type_iri Json = codes "http://www.w3.org/ns/csvw#JSON"
 text_type_iri Time = codes "http://www.w3.org/2001/XMLSchema#time"
 text_type_iri (DateTime zone) = date_time_iri zone
 text_type_iri (Part part) = part_iri part
+text_type_iri (Binary form) = binary_iri form
+text_type_iri (Duration kind) = duration_iri kind
 
 abbrev pub name_of : Simple → List ℕ
 name_of Text = codes "string"
@@ -110,6 +147,12 @@ IsNamed name Moment = (name ≡ codes "dateTime") ⊎ (name ≡ codes "datetime"
 IsNamed name (Other t) = IsTextTypeNamed name t
 IsNamed name (Floating t) = IsFloatingNamed name t
 IsNamed name s = name ≡ name_of s
+
+-- no type of octets, of durations or of parts of dates has this name
+pub record IsOfNoFamily (name : List ℕ) : Type 0 where
+  pub binary : (form : BinaryForm) → ¬ IsBinaryNamed name form
+  pub duration : (kind : DurationKind) → ¬ (name ≡ duration_name kind)
+  pub part : (part : DatePart) → ¬ (name ≡ part_name part)
 
 -- no type that is derived from others, has exponents or is a text has this name
 pub record IsNoneNamed (name : List ℕ) : Type 0 where

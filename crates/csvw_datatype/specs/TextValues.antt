@@ -3,7 +3,7 @@
 use Rattle.std.specs.Prelude.{ℕ, Bool, ◌&&◌, Option, Some, None, if◌then◌else◌, List}
 use Rattle.std.specs.Str.{chars}
 use Rattle.csvw_fault.specs.declared.fault.Code.{Code}
-use Rattle.csvw_fault.specs.declared.fault.Code.TheVariants.{BadDate, BadDateTime, BadTime, BadText}
+use Rattle.csvw_fault.specs.declared.fault.Code.TheVariants.{BadDate, BadDateTime, BadTime, BadText, BadDuration}
 use Rattle.csvw_datatype_core.specs.declared.time.TimeFormat.{TimeFormat}
 use Rattle.csvw_datatype_core.specs.declared.time.TimeFormat.TheVariants as time_formats
 use Rattle.csvw_datatype_core.specs.DateParts.{date_part_form}
@@ -13,6 +13,9 @@ use Rattle.csvw_datatype_core.specs.declared.date_time.DateTime.TheVariants as d
 use Rattle.csvw_datatype_core.specs.DateTimes.{date_time_value}
 use Rattle.csvw_datatype_core.specs.Languages.{is_language}
 use Rattle.csvw_datatype_core.specs.XmlNames.{is_name, is_name_token}
+use Rattle.csvw_binary.specs.Binaries.{binary_form}
+use Rattle.csvw_duration.specs.Forms.{duration_form}
+use Rattle.csvw_datatype.specs.QualifiedNames.{is_qualified_name}
 use Rattle.csvw_datatype.specs.declared.simple.TextType.{TextType}
 use Rattle.csvw_datatype.specs.declared.simple.TextType.TheVariants as types
 use Rattle.csvw_datatype.specs.declared.value.Value.{Value}
@@ -34,29 +37,38 @@ abbrev pub kept : Option (List ℕ) → Option Value
 kept None = None
 kept (Some text) = Some (values.Text text)
 
+-- the value that is kept as this text, if the first text is described
+abbrev pub kept_if : Bool → Option (List ℕ) → Option Value
+kept_if is_one form = if is_one then kept form else None
+
 -- a moment with a zone or with parts of a second is kept as its text
 abbrev pub date_time_kept : Option DateTime → Option Value
 date_time_kept None = None
 date_time_kept (Some (date_times.Second moment)) = Some (values.Moment moment)
 date_time_kept (Some (date_times.Written text)) = Some (values.Text text)
 
--- The value of a text. Each text is a value of anyAtomicType, token, xml, html and json, since white space was normalized before. If the format is
--- a regular expression, it describes each value of these and of language, Name and NMTOKEN.
+-- The value of a text. Each text is a value of anyAtomicType, normalizedString, token, xml, html and json, since white space was normalized before. If the
+-- format is a regular expression, it describes each text of a type that may have one.
 unfoldable pub text_value : TextType → Option Format → List ℕ → Option Value
 text_value types.Any format text = text_if (is_described format text) text
+text_value types.Normalized format text = text_if (is_described format text) text
 text_value types.Token format text = text_if (is_described format text) text
 text_value types.Language format text = text_if (is_language text && is_described format text) text
 text_value types.Name format text = text_if (is_name (chars text) && is_described format text) text
 text_value types.NameToken format text = text_if (is_name_token (chars text) && is_described format text) text
+text_value types.QualifiedName format text = text_if (is_qualified_name text && is_described format text) text
 text_value types.Xml format text = text_if (is_described format text) text
 text_value types.Html format text = text_if (is_described format text) text
 text_value types.Json format text = text_if (is_described format text) text
 text_value types.Time format text = kept (time_form (time_format format) text)
 text_value (types.DateTime zone) format text = date_time_kept (date_time_value zone text)
 text_value (types.Part part) format text = kept (date_part_form part text)
+text_value (types.Binary form) format text = kept_if (is_described format text) (binary_form form text)
+text_value (types.Duration kind) format text = kept_if (is_described format text) (duration_form kind text)
 
 abbrev pub text_code : TextType → Code
 text_code types.Time = BadTime
 text_code (types.DateTime zone) = BadDateTime
 text_code (types.Part part) = BadDate
+text_code (types.Duration kind) = BadDuration
 text_code _ = BadText

@@ -1,6 +1,6 @@
 //! `Datatype` and `Facets`: a datatype of a column.
 ghost use Rattle.std.specs.Prelude.{◌≡◌, IfOk};
-ghost use Rattle.csvw_datatype.specs.Strings.{is_string, takes_any_text, keeps_space, keeps_ends};
+ghost use Rattle.csvw_datatype.specs.Strings.{is_string, takes_any_text, keeps_ends};
 
 use crate::format::Format;
 use crate::simple::{Simple, TextType};
@@ -121,28 +121,6 @@ impl Datatype {
         ensures { result ≡ takes_any_text self.now }
     {
         self.is_string() && !matches!(self.format, Some(Format::Expression(_)))
-    }
-
-    /// Returns whether white space in a cell stays as it is (Model for Tabular Data, section 6.4, steps 1 and 2).
-    #[inline(always)]
-    pub fn keeps_space(&self) -> bool
-        ensures { result ≡ keeps_space self.now }
-    {
-        match self.simple {
-            Simple::Text => true,
-            Simple::Other(text_type) => matches!(
-                text_type,
-                TextType::Any | TextType::Xml | TextType::Html | TextType::Json
-            ),
-            Simple::Truth
-            | Simple::Whole
-            | Simple::Decimal
-            | Simple::Day
-            | Simple::Uri
-            | Simple::Derived(_)
-            | Simple::Moment
-            | Simple::Floating(_) => false,
-        }
     }
 
     /// Returns whether white space at the ends of the items of a list stays (Model for Tabular Data, section 6.4, step 6).

@@ -4,6 +4,7 @@ ghost use Rattle.csvw_datatype_core.specs.Forms.{number_form};
 ghost use Rattle.csvw_datatype_core.specs.Numbers.{IsLawful};
 ghost use Rattle.csvw_datatype.specs.DoubleFormats.{HasNoPlain, IsNoNumber, IsPlainOf, IsSameNumber, at_exponent, exponent, is_special, mantissa, mantissa_rules};
 ghost use Rattle.csvw_datatype.specs.Formats.{format_rules};
+ghost use Rattle.csvw_datatype.specs.Splits.{parts_at};
 
 use crate::format::NumberFormat;
 use csvw_datatype_core::{NumberFault, NumberRules, number_text, read_number};
@@ -11,10 +12,21 @@ use csvw_text::Text;
 use std::alloc::{AllocError, Global};
 
 /// Returns the text before the first `E` and the text after it, or `None` if there is no `E`.
-fn at_exponent(text: &str) -> Option<(&str, &str)>
-    ensures { option_map (λ x. (x.0.now, x.1.now)) result ≡ at_exponent text.now }
+fn at_first_e(text: &str) -> Option<(&str, &str)>
+    ensures { option_map (λ x. (x.0.now, x.1.now)) result ≡ parts_at 69 text.now }
 {
     text.split_once('E')
+}
+
+/// Returns the text before the exponent and the exponent, or `None` if there is no exponent. A pattern has none: an `E` there is
+/// a decimal character or a group character.
+fn at_exponent<'a>(format: &NumberFormat, text: &'a str) -> Option<(&'a str, &'a str)>
+    ensures { option_map (λ x. (x.0.now, x.1.now)) result ≡ at_exponent format.now text.now }
+{
+    match format.pattern {
+        Some(_) => None,
+        None => at_first_e(text),
+    }
 }
 
 /// Whether the text is `INF`, `-INF` or `NaN`.
@@ -80,9 +92,10 @@ fn same_number(
 ) -> Result<Result<Text, NumberFault>, AllocError>
     requires { IsLawful (format_rules format.now) }
     ensures { IfOk result (λ answer. MatchResult answer
-        (IsSameNumber format.now text.now (at_exponent text.now)) (IsNoNumber format.now text.now (at_exponent text.now))) }
+        (IsSameNumber format.now text.now (at_exponent format.now text.now))
+        (IsNoNumber format.now text.now (at_exponent format.now text.now))) }
 {
-    let parts = at_exponent(text);
+    let parts = at_exponent(format, text);
     match read_number(&mantissa_rules(format, parts), mantissa(text, parts)) {
         Ok(number) => Ok(Ok(with_exponent(alloc, number, parts)?)),
         Err(fault) => Ok(Err(fault)),

@@ -2,21 +2,23 @@
 ghost use Rattle.std.specs.Prelude.{◌≡◌, false, length, ◌==◌, nat_lt, not, option_copied, is_some, Some, ◌||◌};
 ghost use Rattle.std.specs.Str.{chars};
 ghost use Rattle.csvw_datatype.specs.Breaks.{breaks, unbroken, is_faceted, length_breaks, has_lengths, has_bounds};
-ghost use Rattle.csvw_datatype.specs.Breaks.{is_below, is_up_to, length_of, fails, is_over, is_not_under};
+ghost use Rattle.csvw_datatype.specs.Breaks.{is_below, is_up_to, length_of, text_length, fails, is_over, is_not_under};
 
 use crate::datatype::{Datatype, Facets};
+use crate::simple::{Simple, TextType};
 use crate::value::Value;
+use csvw_binary::octet_count;
 use csvw_double::compare_doubles;
 use std::cmp::Ordering;
 
 /// The facets that a value breaks, one for each code.
 #[derive(Clone, Copy, Debug, PartialEq, Eq)]
 pub struct Broken {
-    /// The text does not have as many characters as `length` says.
+    /// The text does not have as many characters, or octets, as `length` says.
     pub wrong_length: bool,
-    /// The text has fewer characters than `minLength` says.
+    /// The text has fewer characters, or octets, than `minLength` says.
     pub too_short: bool,
-    /// The text has more characters than `maxLength` says.
+    /// The text has more characters, or octets, than `maxLength` says.
     pub too_long: bool,
     /// The value is below `minimum` or `minInclusive`, or not above `minExclusive`.
     pub below_minimum: bool,
@@ -31,7 +33,7 @@ impl Datatype {
     #[inline(always)]
     pub fn is_faceted(&self, value: &Value) -> bool
         ensures value { result ≡ is_faceted value.now self.now.facets }
-        ensures unbroken { result ≡ false → breaks value.now self.now.facets ≡ unbroken }
+        ensures unbroken { result ≡ false → breaks self.now.simple value.now self.now.facets ≡ unbroken }
     {
         match value {
             Value::Text(_) => has_lengths(&self.facets) || self.facets.has_bounds(),
@@ -43,10 +45,10 @@ impl Datatype {
     /// Returns the facets that a value breaks. It takes no memory (Metadata Vocabulary for Tabular Data, section
     /// 5.11.2).
     pub fn facets(&self, value: &Value) -> Broken
-        ensures { result ≡ breaks value.now self.now.facets }
+        ensures { result ≡ breaks self.now.simple value.now self.now.facets }
     {
         let facets = &self.facets;
-        let lengths = broken_lengths(value, facets);
+        let lengths = broken_lengths(self.simple, value, facets);
         // most datatypes have no bounds
         if !facets.has_bounds() {
             return lengths;
@@ -81,8 +83,8 @@ impl Facets {
 }
 
 // The text is measured only if a facet asks for its length.
-fn broken_lengths(value: &Value, facets: &Facets) -> Broken
-    ensures { result ≡ length_breaks value.now facets.now }
+fn broken_lengths(simple: Simple, value: &Value, facets: &Facets) -> Broken
+    ensures { result ≡ length_breaks simple value.now facets.now }
 {
     if !has_lengths(facets) {
         return Broken {
@@ -93,7 +95,7 @@ fn broken_lengths(value: &Value, facets: &Facets) -> Broken
             above_maximum: false,
         };
     }
-    let length = length_of(value);
+    let length = length_of(simple, value);
     Broken {
         wrong_length: differs(length, facets.length),
         too_short: is_less(length, facets.min_length),
@@ -109,12 +111,31 @@ pub(crate) fn has_lengths(facets: &Facets) -> bool
     facets.length.is_some() || facets.min_length.is_some() || facets.max_length.is_some()
 }
 
-fn length_of(value: &Value) -> Option<u64>
-    ensures { result ≡ length_of value.now }
+fn length_of(simple: Simple, value: &Value) -> Option<u64>
+    ensures { result ≡ length_of simple value.now }
 {
     match value {
-        Value::Text(text) => Some(count(text.as_str())),
+        Value::Text(text) => Some(text_length(simple, text.as_str())),
         Value::Truth(_) | Value::Number(_) | Value::Day(_) | Value::Moment(_) => None,
+    }
+}
+
+/// Returns how many octets the text of a type of octets writes, or how many characters any other text has.
+fn text_length(simple: Simple, text: &str) -> u64
+    ensures { result ≡ text_length simple text.now }
+{
+    match simple {
+        Simple::Other(TextType::Binary(form)) => octet_count(form, text),
+        Simple::Text
+        | Simple::Truth
+        | Simple::Whole
+        | Simple::Decimal
+        | Simple::Day
+        | Simple::Uri
+        | Simple::Derived(_)
+        | Simple::Moment
+        | Simple::Other(_)
+        | Simple::Floating(_) => count(text),
     }
 }
 

@@ -79,7 +79,7 @@ pub fn lexical_forms()
 
 /// A law: the codes of the facets that a value breaks say what the standards' words say.
 pub fn broken_facets()
-    ensures { (v : Value) (f : Facets) → SaysWhatBreaks v f (breaks v f) }
+    ensures { (s : Simple) (v : Value) (f : Facets) → SaysWhatBreaks s v f (breaks s v f) }
 {}
 
 /// A law: the facets of a sound datatype fit the type and each other as the standards' words say.

@@ -1,10 +1,14 @@
 //! The built-in datatypes and their names.
 ghost use Rattle.std.specs.Prelude.{◌≡◌, MatchOption};
 ghost use Rattle.csvw_datatype_core.specs.declared.date_part.DatePart.{DatePart as Part};
-ghost use Rattle.csvw_datatype.specs.Names.{date_time_name, date_time_iri, part_name, part_iri, name_of, IsNamed, width_name, floating_name, IsFloatingNamed, text_type_name, IsTextTypeNamed, text_type_iri, IsNoneNamed};
+ghost use Rattle.csvw_binary.specs.declared.binary.BinaryForm.{BinaryForm as Form};
+ghost use Rattle.csvw_duration.specs.declared.value.DurationKind.{DurationKind as Kind};
+ghost use Rattle.csvw_datatype.specs.Names.{date_time_name, date_time_iri, part_name, part_iri, binary_name, binary_iri, IsBinaryNamed, duration_name, duration_iri, IsOfNoFamily, name_of, IsNamed, width_name, floating_name, IsFloatingNamed, text_type_name, IsTextTypeNamed, text_type_iri, IsNoneNamed};
 ghost use Rattle.csvw_datatype.specs.Strings.{has_length, takes_expression};
 
+use csvw_binary::BinaryForm;
 use csvw_datatype_core::{DatePart, Zone};
+use csvw_duration::DurationKind;
 
 /// A derived integer type (XML Schema 1.1 part 2, sections 3.4.14 to 3.4.25).
 #[derive(Clone, Copy, Debug, PartialEq, Eq)]
@@ -50,6 +54,8 @@ pub enum Floating {
 pub enum TextType {
     /// `anyAtomicType`: the type above all others.
     Any,
+    /// `normalizedString`: a string without line breaks and tabs.
+    Normalized,
     /// `token`: a string without line breaks, tabs and spaces that repeat.
     Token,
     /// `language`: the tag of a language, as `en-GB`.
@@ -58,6 +64,8 @@ pub enum TextType {
     Name,
     /// `NMTOKEN`: characters of names of XML, as `2-a`.
     NameToken,
+    /// `QName`: a name of XML that may have a prefix, as `iso:code`.
+    QualifiedName,
     /// `xml`: a part of an XML document.
     Xml,
     /// `html`: a part of an HTML document.
@@ -70,6 +78,10 @@ pub enum TextType {
     DateTime(Zone),
     /// `gYear` and the like: a part of a date.
     Part(DatePart),
+    /// `hexBinary` or `base64Binary`: octets.
+    Binary(BinaryForm),
+    /// `duration`, `yearMonthDuration` or `dayTimeDuration`.
+    Duration(DurationKind),
 }
 
 /// A built-in datatype (Metadata Vocabulary for Tabular Data, section 5.11.1).
@@ -219,19 +231,101 @@ fn date_time_iri(zone: Zone) -> &'static str
     }
 }
 
+/// Returns the name of the type of octets in a form.
+fn binary_name(form: BinaryForm) -> &'static str
+    ensures { result.now ≡ binary_name form }
+{
+    match form {
+        BinaryForm::Hex => "hexBinary",
+        BinaryForm::Base64 => "base64Binary",
+    }
+}
+
+/// Returns the form of the type of octets that has a name. `binary` is another name of `base64Binary`.
+fn binary_named(name: &str) -> Option<BinaryForm>
+    ensures { MatchOption result ((f : Form) → ¬ IsBinaryNamed name.now f) (IsBinaryNamed name.now) }
+{
+    match name {
+        "hexBinary" => Some(BinaryForm::Hex),
+        "base64Binary" | "binary" => Some(BinaryForm::Base64),
+        _ => None,
+    }
+}
+
+/// Returns the IRI of the type of octets in a form.
+fn binary_iri(form: BinaryForm) -> &'static str
+    ensures { result.now ≡ binary_iri form }
+{
+    match form {
+        BinaryForm::Hex => "http://www.w3.org/2001/XMLSchema#hexBinary",
+        BinaryForm::Base64 => "http://www.w3.org/2001/XMLSchema#base64Binary",
+    }
+}
+
+/// Returns the name of the type of durations of a kind.
+fn duration_name(kind: DurationKind) -> &'static str
+    ensures { result.now ≡ duration_name kind }
+{
+    match kind {
+        DurationKind::Any => "duration",
+        DurationKind::YearMonth => "yearMonthDuration",
+        DurationKind::DayTime => "dayTimeDuration",
+    }
+}
+
+/// Returns the kind of the type of durations that has a name.
+fn duration_named(name: &str) -> Option<DurationKind>
+    ensures { MatchOption result ((k : Kind) → ¬ (name.now ≡ duration_name k)) (λ k. name.now ≡ duration_name k) }
+{
+    match name {
+        "duration" => Some(DurationKind::Any),
+        "yearMonthDuration" => Some(DurationKind::YearMonth),
+        "dayTimeDuration" => Some(DurationKind::DayTime),
+        _ => None,
+    }
+}
+
+/// Returns the IRI of the type of durations of a kind.
+fn duration_iri(kind: DurationKind) -> &'static str
+    ensures { result.now ≡ duration_iri kind }
+{
+    match kind {
+        DurationKind::Any => "http://www.w3.org/2001/XMLSchema#duration",
+        DurationKind::YearMonth => "http://www.w3.org/2001/XMLSchema#yearMonthDuration",
+        DurationKind::DayTime => "http://www.w3.org/2001/XMLSchema#dayTimeDuration",
+    }
+}
+
+/// Returns the type of octets, of durations or of parts of dates that has a name.
+fn of_family(name: &str) -> Option<TextType>
+    ensures { MatchOption result (IsOfNoFamily name.now) (IsTextTypeNamed name.now) }
+{
+    if let Some(form) = binary_named(name) {
+        return Some(TextType::Binary(form));
+    }
+    match duration_named(name) {
+        Some(kind) => Some(TextType::Duration(kind)),
+        None => part_named(name).map(TextType::Part),
+    }
+}
+
 impl TextType {
     fn name(self) -> &'static str
         ensures { result.now ≡ text_type_name self }
     {
         match self {
             TextType::Any => "anyAtomicType",
+            TextType::Normalized => "normalizedString",
             TextType::Token => "token",
             TextType::Language => "language",
             TextType::Name => "Name",
             TextType::NameToken => "NMTOKEN",
+            TextType::QualifiedName => "QName",
             TextType::Time => "time",
             TextType::DateTime(zone) => date_time_name(zone),
             TextType::Part(part) => part_name(part),
+            TextType::Binary(form) => binary_name(form),
+            TextType::Duration(kind) => duration_name(kind),
             TextType::Xml => "xml",
             TextType::Html => "html",
             TextType::Json => "json",
@@ -243,16 +337,18 @@ impl TextType {
     {
         match name {
             "any" | "anyAtomicType" => Some(TextType::Any),
+            "normalizedString" => Some(TextType::Normalized),
             "token" => Some(TextType::Token),
             "language" => Some(TextType::Language),
             "Name" => Some(TextType::Name),
             "NMTOKEN" => Some(TextType::NameToken),
+            "QName" => Some(TextType::QualifiedName),
             "xml" => Some(TextType::Xml),
             "html" => Some(TextType::Html),
             "json" => Some(TextType::Json),
             "time" => Some(TextType::Time),
             "dateTimeStamp" => Some(TextType::DateTime(Zone::Required)),
-            _ => part_named(name).map(TextType::Part),
+            _ => of_family(name),
         }
     }
 
@@ -262,13 +358,17 @@ impl TextType {
     {
         match self {
             TextType::Any => "http://www.w3.org/2001/XMLSchema#anyAtomicType",
+            TextType::Normalized => "http://www.w3.org/2001/XMLSchema#normalizedString",
             TextType::Token => "http://www.w3.org/2001/XMLSchema#token",
             TextType::Language => "http://www.w3.org/2001/XMLSchema#language",
             TextType::Name => "http://www.w3.org/2001/XMLSchema#Name",
             TextType::NameToken => "http://www.w3.org/2001/XMLSchema#NMTOKEN",
+            TextType::QualifiedName => "http://www.w3.org/2001/XMLSchema#QName",
             TextType::Time => "http://www.w3.org/2001/XMLSchema#time",
             TextType::DateTime(zone) => date_time_iri(zone),
             TextType::Part(part) => part_iri(part),
+            TextType::Binary(form) => binary_iri(form),
+            TextType::Duration(kind) => duration_iri(kind),
             TextType::Xml => "http://www.w3.org/1999/02/22-rdf-syntax-ns#XMLLiteral",
             TextType::Html => "http://www.w3.org/1999/02/22-rdf-syntax-ns#HTML",
             TextType::Json => "http://www.w3.org/ns/csvw#JSON",
@@ -308,8 +408,8 @@ impl Simple {
         }
     }
 
-    /// Returns whether the type is string or derived from it, so that lengths apply to its values (Metadata Vocabulary for
-    /// Tabular Data, section 5.11.2).
+    /// Returns whether the type is string, or derived from it, or of octets, so that lengths apply to its values (Metadata
+    /// Vocabulary for Tabular Data, section 5.11.2).
     pub fn has_length(self) -> bool
         ensures { result ≡ has_length self }
     {
@@ -318,7 +418,12 @@ impl Simple {
             Simple::Other(text_type) => {
                 !matches!(
                     text_type,
-                    TextType::Any | TextType::Time | TextType::DateTime(_) | TextType::Part(_)
+                    TextType::Any
+                        | TextType::QualifiedName
+                        | TextType::Time
+                        | TextType::DateTime(_)
+                        | TextType::Part(_)
+                        | TextType::Duration(_)
                 )
             }
             _ => false,

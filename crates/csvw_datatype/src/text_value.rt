@@ -1,15 +1,18 @@
 //! The value of a text under a type that keeps texts.
 ghost use Rattle.std.specs.Prelude.{◌≡◌, IfOk, Some, None, if◌then◌else◌};
-ghost use Rattle.csvw_datatype.specs.TextValues.{time_format, text_value, text_code, text_if, kept, date_time_kept};
+ghost use Rattle.csvw_datatype.specs.TextValues.{time_format, text_value, text_code, text_if, kept, kept_if, date_time_kept};
 ghost use Rattle.csvw_datatype.specs.Formats.{is_described};
 
 use crate::format::{Format, is_described};
+use crate::qualified_name::is_qualified_name;
 use crate::simple::TextType;
 use crate::value::Value;
+use csvw_binary::binary_text;
 use csvw_datatype_core::{
     DateTime, TimeFormat, date_part_text, is_language, is_name, is_name_token, read_date_time,
     time_text,
 };
+use csvw_duration::duration_text;
 use csvw_regex::Expressions;
 use csvw_text::{Code, Text};
 use std::alloc::{AllocError, Global};
@@ -51,6 +54,13 @@ fn kept(form: Option<Text>) -> Option<Value>
     }
 }
 
+/// Returns the value that is kept as a text, if its text is described.
+fn kept_if(is_one: bool, form: Option<Text>) -> Option<Value>
+    ensures { result ≡ kept_if is_one form }
+{
+    if is_one { kept(form) } else { None }
+}
+
 /// Returns the value of a moment. One with a zone or with parts of a second is kept as its text.
 fn date_time_kept(found: Option<DateTime>) -> Option<Value>
     ensures { result ≡ date_time_kept found }
@@ -79,9 +89,20 @@ pub(crate) fn text_value(
         TextType::Time => Ok(kept(time_text(alloc, time_format(format), text)?)),
         TextType::DateTime(zone) => Ok(date_time_kept(read_date_time(alloc, zone, text)?)),
         TextType::Part(part) => Ok(kept(date_part_text(alloc, part, text)?)),
-        TextType::Any | TextType::Token | TextType::Xml | TextType::Html | TextType::Json => {
-            text_if(alloc, is_described(format, expressions, text)?, text)
+        TextType::Binary(form) => {
+            let is_one = is_described(format, expressions, text)?;
+            Ok(kept_if(is_one, binary_text(alloc, form, text)?))
         }
+        TextType::Duration(kind) => {
+            let is_one = is_described(format, expressions, text)?;
+            Ok(kept_if(is_one, duration_text(alloc, kind, text)?))
+        }
+        TextType::Any
+        | TextType::Normalized
+        | TextType::Token
+        | TextType::Xml
+        | TextType::Html
+        | TextType::Json => { text_if(alloc, is_described(format, expressions, text)?, text) }
         TextType::Language => {
             let is_one = is_language(text) && is_described(format, expressions, text)?;
             text_if(alloc, is_one, text)
@@ -92,6 +113,10 @@ pub(crate) fn text_value(
         }
         TextType::NameToken => {
             let is_one = is_name_token(text) && is_described(format, expressions, text)?;
+            text_if(alloc, is_one, text)
+        }
+        TextType::QualifiedName => {
+            let is_one = is_qualified_name(text) && is_described(format, expressions, text)?;
             text_if(alloc, is_one, text)
         }
     }
@@ -105,13 +130,17 @@ pub(crate) fn text_code(text_type: TextType) -> Code
         TextType::Time => Code::BadTime,
         TextType::DateTime(_) => Code::BadDateTime,
         TextType::Part(_) => Code::BadDate,
+        TextType::Duration(_) => Code::BadDuration,
         TextType::Any
+        | TextType::Normalized
         | TextType::Token
         | TextType::Language
         | TextType::Name
         | TextType::NameToken
+        | TextType::QualifiedName
         | TextType::Xml
         | TextType::Html
-        | TextType::Json => Code::BadText,
+        | TextType::Json
+        | TextType::Binary(_) => Code::BadText,
     }
 }

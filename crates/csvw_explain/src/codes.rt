@@ -187,7 +187,7 @@ Section: Model for Tabular Data, section 6.4.4.
 
 ## BadText (fault of a table)
 
-The text of a cell is not written as texts of its datatype are: no tag of a language, `Name` or `NMTOKEN`. Or the regular expression that is the `format` of the datatype does not match the whole text.
+The text of a cell is not written as texts of its datatype are: no tag of a language, name of XML or text of octets. Or the regular expression that is the `format` of the datatype does not match the whole text.
 
 Example:
 
@@ -196,7 +196,20 @@ Example:
 
 Instead: Write the tag with `-`: `en-GB`. With a regular expression, correct the text or the expression: `[0-9]{3}` matches `123` and not `1234`. These datatypes and regular expressions need `--profile w3c`.
 
-Section: XML Schema part 2, sections 3.4.3 to 3.4.6. Model for Tabular Data, section 6.4.6.
+Section: XML Schema part 2, sections 3.3.15, 3.3.16, 3.3.18 and 3.4.3 to 3.4.6. Model for Tabular Data, section 6.4.6.
+
+## BadDuration (fault of a table)
+
+The text of a cell is no duration, or not one of its datatype. Or the regular expression that is the `format` of the datatype does not match the whole text.
+
+Example:
+
+    metadata.json: {"@context":"http://www.w3.org/ns/csvw","url":"t.csv","tableSchema":{"columns":[{"name":"n","datatype":"duration"}]}}
+    t.csv: n\n5 days\n
+
+Instead: Write `P5D`. A duration begins with `P`, and `T` comes before hours, minutes and seconds: `P1Y2M3DT4H5M6.7S`. A `yearMonthDuration` has years and months alone, and a `dayTimeDuration` has none. These datatypes need `--profile w3c`.
+
+Section: XML Schema part 2, sections 3.3.6, 3.4.26 and 3.4.27. Model for Tabular Data, section 6.4.5.
 
 ## WrongLength (fault of a table)
 

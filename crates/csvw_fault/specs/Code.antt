@@ -3,7 +3,7 @@ use Rattle.std.specs.Prelude.{ℕ, List, codes}
 use Rattle.csvw_fault.specs.declared.fault.Code.{Code}
 use Rattle.csvw_fault.specs.declared.fault.Code.TheVariants.{UnknownProperty, HeaderMissing, HeaderCount, HeaderMismatch, Required, BadBoolean}
 use Rattle.csvw_fault.specs.declared.fault.Code.TheVariants.{BadInteger, BadDecimal, NumberTooLong, OutOfRange, BadDate, BadDateTime, BadDouble, WrongLength}
-use Rattle.csvw_fault.specs.declared.fault.Code.TheVariants.{BadTime, BadText, TooShort, TooLong, BelowMinimum, AboveMaximum, BadUrl, UrlTooLong, DuplicateKey}
+use Rattle.csvw_fault.specs.declared.fault.Code.TheVariants.{BadTime, BadText, BadDuration, TooShort, TooLong, BelowMinimum, AboveMaximum, BadUrl, UrlTooLong, DuplicateKey}
 use Rattle.csvw_fault.specs.declared.fault.Code.TheVariants.{NoReferencedRow, ManyReferencedRows}
 
 -- the name of the variant
@@ -23,6 +23,7 @@ name_of BadDateTime = codes "BadDateTime"
 name_of BadDouble = codes "BadDouble"
 name_of BadTime = codes "BadTime"
 name_of BadText = codes "BadText"
+name_of BadDuration = codes "BadDuration"
 name_of WrongLength = codes "WrongLength"
 name_of TooShort = codes "TooShort"
 name_of TooLong = codes "TooLong"

@@ -56,8 +56,10 @@ pub enum Code {
     BadDouble,
     /// The text is not a time of day of the column's format.
     BadTime,
-    /// The text is not written as texts of its type are. The column is of a type as `language`, `Name` or `NMTOKEN`.
+    /// The text is not written as texts of its type are. The column is of a type as `language`, `Name` or `hexBinary`.
     BadText,
+    /// The text is not a duration, or not one of its datatype.
+    BadDuration,
     /// The text does not have the length that the facet `length` says.
     WrongLength,
     /// The text is shorter than the facet `minLength` says.
@@ -99,6 +101,7 @@ impl Code {
             Code::BadDouble => "the text is no double: write digits, as in 1.5E3, or INF or NaN",
             Code::BadTime => "the text is no time of day: write one as `format` spells it",
             Code::BadText => "the text is none of its datatype: write it as the datatype asks",
+            Code::BadDuration => "the text is no duration: write one as in P1Y2M or P3DT4H5M6S",
             Code::WrongLength => "the value has another length than `length` says: correct it",
             Code::TooShort => "the value is shorter than `minLength` says: lengthen it",
             Code::TooLong => "the value is longer than `maxLength` says: shorten it",
@@ -153,6 +156,7 @@ impl Code {
             Code::BadDouble => "BadDouble",
             Code::BadTime => "BadTime",
             Code::BadText => "BadText",
+            Code::BadDuration => "BadDuration",
             Code::WrongLength => "WrongLength",
             Code::TooShort => "TooShort",
             Code::TooLong => "TooLong",

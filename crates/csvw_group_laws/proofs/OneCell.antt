@@ -76,7 +76,7 @@ module _ (one_value : (s : Simple) (f : Option Format) (text : List ℕ) (v w : 
       → (item v a ≡ item w b) × (cs ≡ ds)
   item_is_one d text true true v w cs ds format h g =
       let same : v ≡ w = one_value d.simple d.format text v w format h.0 g.0 in
-      (ap (λ z. item z true) same, h.1 ∙ ap (λ z. broken_codes (breaks z d.facets)) same ∙ sym g.1)
+      (ap (λ z. item z true) same, h.1 ∙ ap (λ z. broken_codes (breaks d.simple z d.facets)) same ∙ sym g.1)
   item_is_one d text true false v w cs ds format h g = absurd (value_or_code d.simple d.format text v g.0 format h.0 g.1)
   item_is_one d text false true v w cs ds format h g = absurd (value_or_code d.simple d.format text w h.0 format g.0 h.1)
   item_is_one d text false false v w cs ds format h g =

@@ -5,7 +5,9 @@ use crate::key_rule::{push_foreign_keys, push_primary_key};
 use crate::tables::{TableAt, declared, field_of};
 use csvw_columns::TablePlan;
 use csvw_columns_core::Column;
-use csvw_datatype::{Datatype, Format, NumberFormat, RegularExpression, Simple, TextType, Zone};
+use csvw_datatype::{
+    Datatype, DurationKind, Format, NumberFormat, RegularExpression, Simple, TextType, Zone,
+};
 use csvw_page::{push_quoted, push_text};
 use csvw_text::{Code, Fault};
 use std::alloc::AllocError;
@@ -71,6 +73,15 @@ fn push_zone(text: &mut String, zone: Zone) -> Result<(), AllocError> {
     text.push_str(", as in 2020-01-31T08:30:00Z")
 }
 
+/// Adds how a type of durations is written.
+fn push_duration(text: &mut String, kind: DurationKind) -> Result<(), AllocError> {
+    text.push_str(match kind {
+        DurationKind::Any => ", as in P1Y2M3DT4H5M6S",
+        DurationKind::YearMonth => ", as in P1Y2M",
+        DurationKind::DayTime => ", as in P3DT4H5M6S",
+    })
+}
+
 /// Adds the name and the format of a datatype.
 fn push_datatype(text: &mut String, datatype: &Datatype) -> Result<(), AllocError> {
     text.push_str("    datatype ")?;
@@ -78,8 +89,10 @@ fn push_datatype(text: &mut String, datatype: &Datatype) -> Result<(), AllocErro
     if let Some(format) = &datatype.format {
         push_format(text, format)?;
     }
-    if let Simple::Other(TextType::DateTime(zone)) = datatype.simple {
-        push_zone(text, zone)?;
+    match datatype.simple {
+        Simple::Other(TextType::DateTime(zone)) => push_zone(text, zone)?,
+        Simple::Other(TextType::Duration(kind)) => push_duration(text, kind)?,
+        _ => {}
     }
     text.push('\n')
 }
@@ -89,7 +102,12 @@ fn takes_all_texts(simple: Simple) -> bool {
     match simple {
         Simple::Text | Simple::Uri => true,
         Simple::Other(
-            TextType::Any | TextType::Token | TextType::Xml | TextType::Html | TextType::Json,
+            TextType::Any
+            | TextType::Normalized
+            | TextType::Token
+            | TextType::Xml
+            | TextType::Html
+            | TextType::Json,
         ) => true,
         _ => false,
     }
@@ -125,6 +143,9 @@ fn push_lengths(text: &mut String, datatype: &Datatype) -> Result<(), AllocError
     push_length(text, "length", facets.length)?;
     push_length(text, "minLength", facets.min_length)?;
     push_length(text, "maxLength", facets.max_length)?;
+    if let Simple::Other(TextType::Binary(_)) = datatype.simple {
+        text.push_str(" octets")?;
+    }
     text.push('\n')
 }
 
@@ -175,7 +196,7 @@ fn push_column_rule(text: &mut String, column: &Column, code: Code) -> Result<()
         | Code::BadDateTime
         | Code::BadDouble
         | Code::BadTime => push_datatype(text, datatype),
-        Code::BadText => push_text_rule(text, datatype),
+        Code::BadText | Code::BadDuration => push_text_rule(text, datatype),
         Code::OutOfRange => push_range(text, datatype),
         Code::BelowMinimum | Code::AboveMaximum => push_bounds(text, datatype),
         Code::WrongLength | Code::TooShort | Code::TooLong => push_lengths(text, datatype),

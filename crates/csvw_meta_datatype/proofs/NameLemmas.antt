@@ -3,12 +3,15 @@ use Rattle.std.proofs.Common.{◌≡◌, MatchOption, inl, inr, ℕ, List, [], �
 use Rattle.std.proofs.lemmas.Slice.Eq.{bytes_eq-Decides}
 use Rattle.csvw_datatype_core.specs.declared.date_part.DatePart.TheVariants as parts
 use Rattle.csvw_datatype_core.specs.declared.date_time.Zone.TheVariants as zones
+use Rattle.csvw_binary.specs.declared.binary.BinaryForm.TheVariants as forms
+use Rattle.csvw_duration.specs.declared.value.DurationKind.TheVariants as kinds
 use Rattle.csvw_datatype.specs.declared.simple.Simple.{Simple}
 use Rattle.csvw_datatype.specs.declared.simple.Simple.TheVariants.{Text, Truth, Whole, Decimal, Day, Uri, Derived, Moment, Other, Floating}
 use Rattle.csvw_datatype.specs.declared.simple.Floating.{Floating as FloatingType}
 use Rattle.csvw_datatype.specs.declared.simple.Floating.TheVariants.{Double, Float}
 use Rattle.csvw_datatype.specs.declared.simple.TextType.{TextType}
-use Rattle.csvw_datatype.specs.declared.simple.TextType.TheVariants.{Any, Token, Language, Name, NameToken, Xml, Html, Json, Time, DateTime, Part}
+use Rattle.csvw_datatype.specs.declared.simple.TextType.TheVariants.{Any, Normalized, Token, Language, Name, NameToken, QualifiedName, Xml, Html, Json}
+use Rattle.csvw_datatype.specs.declared.simple.TextType.TheVariants.{Time, DateTime, Part, Binary, Duration}
 use Rattle.csvw_datatype.specs.declared.simple.Width.{Width}
 use Rattle.csvw_datatype.specs.declared.simple.Width.TheVariants.{Long, Int, Short, Byte, UnsignedLong, UnsignedInt, UnsignedShort, UnsignedByte}
 use Rattle.csvw_datatype.specs.declared.simple.Width.TheVariants.{NonNegativeInteger, PositiveInteger, NonPositiveInteger, NegativeInteger}
@@ -22,6 +25,7 @@ NoneNamed name = (s : Simple) → IsNamed name s → ⊥
 -- the name of the type with zones is that of the type without them
 not_text_type : (name : List ℕ) → NoneNamed name → (t : TextType) → name ≡ text_type_name t → ⊥
 not_text_type name none Any e = none (Other Any) (inl e)
+not_text_type name none Normalized e = none (Other Normalized) e
 not_text_type name none Token e = none (Other Token) e
 not_text_type name none Xml e = none (Other Xml) e
 not_text_type name none Html e = none (Other Html) e
@@ -29,10 +33,14 @@ not_text_type name none Json e = none (Other Json) e
 not_text_type name none Language e = none (Other Language) e
 not_text_type name none Name e = none (Other Name) e
 not_text_type name none NameToken e = none (Other NameToken) e
+not_text_type name none QualifiedName e = none (Other QualifiedName) e
 not_text_type name none Time e = none (Other Time) e
 not_text_type name none (DateTime zones.Optional) e = none Moment (inl e)
 not_text_type name none (DateTime zones.Required) e = none (Other (DateTime zones.Required)) e
 not_text_type name none (Part p) e = none (Other (Part p)) e
+not_text_type name none (Binary forms.Hex) e = none (Other (Binary forms.Hex)) e
+not_text_type name none (Binary forms.Base64) e = none (Other (Binary forms.Base64)) (inl e)
+not_text_type name none (Duration k) e = none (Other (Duration k)) e
 
 not_simple : (name : List ℕ) → NoneNamed name → (s : Simple) → name ≡ name_of s → ⊥
 not_simple name none Text e = none Text e
@@ -64,6 +72,7 @@ none_named name h =
       differs name (codes "datetime") (λ e. h Moment (inr e)),
       differs name (codes "any") (λ e. h (Other Any) (inr e)),
       differs name (codes "number") (λ e. h (Floating Double) (inr e)),
+      differs name (codes "binary") (λ e. h (Other (Binary forms.Base64)) (inr e)),
     ) (none_in name h all_simples)
 
 width_named : (name : List ℕ) (w : Width) → name ≡ width_name w → type_named name ≡ Some (Derived w)
@@ -83,6 +92,7 @@ width_named name NegativeInteger e = rw e refl
 text_type_named : (name : List ℕ) (t : TextType) → IsTextTypeNamed name t → type_named name ≡ Some (Other t)
 text_type_named name Any (inl e) = rw e refl
 text_type_named name Any (inr e) = rw e refl
+text_type_named name Normalized e = rw e refl
 text_type_named name Token e = rw e refl
 text_type_named name Xml e = rw e refl
 text_type_named name Html e = rw e refl
@@ -90,6 +100,7 @@ text_type_named name Json e = rw e refl
 text_type_named name Language e = rw e refl
 text_type_named name Name e = rw e refl
 text_type_named name NameToken e = rw e refl
+text_type_named name QualifiedName e = rw e refl
 text_type_named name Time e = rw e refl
 text_type_named name (DateTime zones.Optional) e = absurd e
 text_type_named name (DateTime zones.Required) e = rw e refl
@@ -98,6 +109,12 @@ text_type_named name (Part parts.YearMonth) e = rw e refl
 text_type_named name (Part parts.Month) e = rw e refl
 text_type_named name (Part parts.MonthDay) e = rw e refl
 text_type_named name (Part parts.Day) e = rw e refl
+text_type_named name (Binary forms.Hex) e = rw e refl
+text_type_named name (Binary forms.Base64) (inl e) = rw e refl
+text_type_named name (Binary forms.Base64) (inr e) = rw e refl
+text_type_named name (Duration kinds.Any) e = rw e refl
+text_type_named name (Duration kinds.YearMonth) e = rw e refl
+text_type_named name (Duration kinds.DayTime) e = rw e refl
 
 floating_named : (name : List ℕ) (t : FloatingType) → IsFloatingNamed name t → type_named name ≡ Some (Floating t)
 floating_named name Double (inl e) = rw e refl

@@ -7,7 +7,8 @@ use Rattle.url.specs.Parts.{Parts}
 use Rattle.csvw_fault.specs.declared.fault.Place.{Place}
 use Rattle.csvw_datatype.specs.declared.simple.Simple.{Simple}
 use Rattle.csvw_datatype.specs.declared.simple.Simple.TheVariants.{Text, Truth, Whole, Decimal, Day, Uri, Derived, Moment, Other, Floating}
-use Rattle.csvw_datatype.specs.declared.simple.TextType.TheVariants.{Any, Token, Language, Name, NameToken, Xml, Html, Json, Time, DateTime, Part}
+use Rattle.csvw_datatype.specs.declared.simple.TextType.TheVariants.{Any, Normalized, Token, Language, Name, NameToken, QualifiedName, Xml, Html, Json}
+use Rattle.csvw_datatype.specs.declared.simple.TextType.TheVariants.{Time, DateTime, Part, Binary, Duration}
 use Rattle.csvw_datatype.specs.Formats.{IsFormatOf}
 use Rattle.csvw_datatype.specs.Sound.{AreBoundsOf, IsSound, lengths_apply}
 use Rattle.csvw_datatype.specs.declared.format.Format.{Format}
@@ -40,6 +41,7 @@ no_lengths (Derived w) = refl
 no_lengths Moment = refl
 no_lengths (Floating t) = refl
 no_lengths (Other Any) = refl
+no_lengths (Other Normalized) = refl
 no_lengths (Other Token) = refl
 no_lengths (Other Xml) = refl
 no_lengths (Other Html) = refl
@@ -47,9 +49,12 @@ no_lengths (Other Json) = refl
 no_lengths (Other Language) = refl
 no_lengths (Other Name) = refl
 no_lengths (Other NameToken) = refl
+no_lengths (Other QualifiedName) = refl
 no_lengths (Other Time) = refl
 no_lengths (Other (DateTime z)) = refl
 no_lengths (Other (Part p)) = refl
+no_lengths (Other (Binary form)) = refl
+no_lengths (Other (Duration kind)) = refl
 
 no_bounds : (s : Simple) → AreBoundsOf s no_facets
 no_bounds s = record { minimum = tt; min_inclusive = tt; min_exclusive = tt; maximum = tt; max_inclusive = tt; max_exclusive = tt }

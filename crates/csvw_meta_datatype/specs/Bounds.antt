@@ -12,12 +12,13 @@ use Rattle.csvw_meta_core.specs.declared.fault.MetaCode.TheVariants.{BadDatatype
 use Rattle.csvw_meta_core.specs.Read.{Read, fine, faulty, ◌>>=◌, wrong, property}
 use Rattle.csvw_meta_datatype.specs.declared.bounds.Bounds.{Bounds}
 
--- a bound that can't be read, or is on a type without an order, is wrong; one of times of day, of moments with zones or of parts of
--- dates isn't supported
+-- a bound that can't be read, or is on a type without an order, is wrong; one of times of day, of moments with zones, of parts of
+-- dates or of durations isn't supported
 abbrev pub no_bound : Simple → MetaCode
 no_bound (simples.Other types.Time) = NotSupported
 no_bound (simples.Other (types.DateTime zone)) = NotSupported
 no_bound (simples.Other (types.Part p)) = NotSupported
+no_bound (simples.Other (types.Duration k)) = NotSupported
 no_bound _ = BadDatatype
 
 abbrev pub bound_found : Simple → List ℕ → Option Value → Read (Option Value)

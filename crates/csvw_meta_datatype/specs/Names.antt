@@ -3,10 +3,13 @@
 use Rattle.std.specs.Prelude.{ℕ, List, [], ◌∷◌, Bool, true, false, codes, bytes_eq, filter, if◌then◌else◌, Option, Some, None}
 use Rattle.csvw_datatype_core.specs.declared.date_part.DatePart.TheVariants.{Year, YearMonth, Month, MonthDay, Day as DayOfMonth}
 use Rattle.csvw_datatype_core.specs.declared.date_time.Zone.TheVariants.{Required}
+use Rattle.csvw_binary.specs.declared.binary.BinaryForm.TheVariants.{Hex, Base64}
+use Rattle.csvw_duration.specs.declared.value.DurationKind.TheVariants.{Any as AnyDuration, YearMonth as YearMonthDuration, DayTime}
 use Rattle.csvw_datatype.specs.declared.simple.Simple.{Simple}
 use Rattle.csvw_datatype.specs.declared.simple.Simple.TheVariants.{Text, Truth, Whole, Decimal, Day, Uri, Derived, Moment, Other, Floating}
 use Rattle.csvw_datatype.specs.declared.simple.Floating.TheVariants.{Double, Float}
-use Rattle.csvw_datatype.specs.declared.simple.TextType.TheVariants.{Any, Token, Language, Name, NameToken, Xml, Html, Json, Time, DateTime, Part}
+use Rattle.csvw_datatype.specs.declared.simple.TextType.TheVariants.{Any, Normalized, Token, Language, Name, NameToken, QualifiedName, Xml, Html, Json}
+use Rattle.csvw_datatype.specs.declared.simple.TextType.TheVariants.{Time, DateTime, Part, Binary, Duration}
 use Rattle.csvw_datatype.specs.declared.simple.Width.TheVariants.{Long, Int, Short, Byte, UnsignedLong, UnsignedInt, UnsignedShort, UnsignedByte}
 use Rattle.csvw_datatype.specs.declared.simple.Width.TheVariants.{NonNegativeInteger, PositiveInteger, NonPositiveInteger, NegativeInteger}
 use Rattle.csvw_datatype.specs.Names.{name_of}
@@ -20,20 +23,23 @@ all_simples =
     ∷ Derived UnsignedInt ∷ Derived UnsignedShort ∷ Derived UnsignedByte ∷ Derived NonNegativeInteger ∷ Derived PositiveInteger
     ∷ Derived NonPositiveInteger ∷ Derived NegativeInteger ∷ Other Any ∷ Other Token ∷ Other Xml ∷ Other Html ∷ Other Json
     ∷ Floating Double ∷ Floating Float ∷ Other Language ∷ Other Name ∷ Other NameToken ∷ Other Time ∷ Other (Part Year) ∷ Other (Part YearMonth)
-    ∷ Other (Part Month) ∷ Other (Part MonthDay) ∷ Other (Part DayOfMonth) ∷ Other (DateTime Required) ∷ []
+    ∷ Other (Part Month) ∷ Other (Part MonthDay) ∷ Other (Part DayOfMonth) ∷ Other (DateTime Required)
+    ∷ Other Normalized ∷ Other QualifiedName ∷ Other (Binary Hex) ∷ Other (Binary Base64) ∷ Other (Duration AnyDuration)
+    ∷ Other (Duration YearMonthDuration) ∷ Other (Duration DayTime) ∷ []
 
 -- the first of them that has the name
 abbrev pub named_in : List Simple → List ℕ → Option Simple
 named_in [] name = None
 named_in (s ∷ ss) name = if bytes_eq name (name_of s) then Some s else named_in ss name
 
--- `datetime` is another name of `dateTime`, `any` of `anyAtomicType`, and `number` of `double`
+-- `datetime` is another name of `dateTime`, `any` of `anyAtomicType`, `number` of `double`, and `binary` of `base64Binary`
 abbrev pub type_named : List ℕ → Option Simple
 type_named name =
     if bytes_eq name (codes "datetime") then Some Moment
     else (if bytes_eq name (codes "any") then Some (Other Any)
     else (if bytes_eq name (codes "number") then Some (Floating Double)
-    else named_in all_simples name))
+    else (if bytes_eq name (codes "binary") then Some (Other (Binary Base64))
+    else named_in all_simples name)))
 
 -- a document in the profile may use the type
 abbrev pub is_in : Profile → Simple → Bool

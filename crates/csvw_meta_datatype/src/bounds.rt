@@ -39,9 +39,9 @@ fn no_bound(simple: Simple) -> MetaCode
     ensures { result ≡ no_bound simple }
 {
     match simple {
-        Simple::Other(TextType::Time | TextType::DateTime(_) | TextType::Part(_)) => {
-            MetaCode::NotSupported
-        }
+        Simple::Other(
+            TextType::Time | TextType::DateTime(_) | TextType::Part(_) | TextType::Duration(_),
+        ) => MetaCode::NotSupported,
         _ => MetaCode::BadDatatype,
     }
 }

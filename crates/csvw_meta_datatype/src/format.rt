@@ -108,13 +108,17 @@ fn read_format_of_texts(
             })
         }
         TextType::Any
+        | TextType::Normalized
         | TextType::Token
         | TextType::Language
         | TextType::Name
         | TextType::NameToken
+        | TextType::QualifiedName
         | TextType::Xml
         | TextType::Html
-        | TextType::Json => read_expression(profile, part),
+        | TextType::Json
+        | TextType::Binary(_)
+        | TextType::Duration(_) => read_expression(profile, part),
         TextType::DateTime(_) | TextType::Part(_) => Err(part.refused(MetaCode::NotSupported)),
     }
 }

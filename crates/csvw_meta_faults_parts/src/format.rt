@@ -97,13 +97,17 @@ fn find_format_of_texts(
             find_sole(part, &time, faults)
         }
         TextType::Any
+        | TextType::Normalized
         | TextType::Token
         | TextType::Language
         | TextType::Name
         | TextType::NameToken
+        | TextType::QualifiedName
         | TextType::Xml
         | TextType::Html
-        | TextType::Json => find_expression(profile, part, faults),
+        | TextType::Json
+        | TextType::Binary(_)
+        | TextType::Duration(_) => find_expression(profile, part, faults),
         TextType::DateTime(_) | TextType::Part(_) => {
             add_fault(part, MetaCode::NotSupported, faults)
         }

@@ -2,13 +2,13 @@
 ghost use Rattle.std.specs.Prelude.{◌≡◌, IfOk, filter};
 ghost use Rattle.csvw_meta_datatype.specs.Names.{all_simples, is_in, simples_of};
 
-use csvw_datatype::{DatePart, Floating, Simple, TextType, Width, Zone};
+use csvw_datatype::{BinaryForm, DatePart, DurationKind, Floating, Simple, TextType, Width, Zone};
 use csvw_meta_core::Profile;
 use csvw_meta_datatype::base::is_in;
 use std::alloc::{AllocError, Global};
 
 /// The built-in datatypes of all profiles.
-static ALL: [Simple; 36] = [
+static ALL: [Simple; 43] = [
     Simple::Text,
     Simple::Truth,
     Simple::Whole,
@@ -45,6 +45,13 @@ static ALL: [Simple; 36] = [
     Simple::Other(TextType::Part(DatePart::MonthDay)),
     Simple::Other(TextType::Part(DatePart::Day)),
     Simple::Other(TextType::DateTime(Zone::Required)),
+    Simple::Other(TextType::Normalized),
+    Simple::Other(TextType::QualifiedName),
+    Simple::Other(TextType::Binary(BinaryForm::Hex)),
+    Simple::Other(TextType::Binary(BinaryForm::Base64)),
+    Simple::Other(TextType::Duration(DurationKind::Any)),
+    Simple::Other(TextType::Duration(DurationKind::YearMonth)),
+    Simple::Other(TextType::Duration(DurationKind::DayTime)),
 ];
 
 /// Returns those of some datatypes that a document in a profile may use, or `AllocError` if there is no memory.

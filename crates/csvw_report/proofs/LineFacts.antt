@@ -9,7 +9,7 @@ use Rattle.csv.specs.declared.writer.WriterBuilder.{WriterBuilder}
 use Rattle.csvw_fault.specs.declared.fault.Code.{Code}
 use Rattle.csvw_fault.specs.declared.fault.Code.TheVariants.{UnknownProperty, HeaderMissing, HeaderCount, HeaderMismatch, Required, BadBoolean}
 use Rattle.csvw_fault.specs.declared.fault.Code.TheVariants.{BadInteger, BadDecimal, NumberTooLong, OutOfRange, BadDate, BadDateTime, BadDouble, WrongLength}
-use Rattle.csvw_fault.specs.declared.fault.Code.TheVariants.{BadTime, BadText, TooShort, TooLong, BelowMinimum, AboveMaximum, BadUrl, UrlTooLong, DuplicateKey}
+use Rattle.csvw_fault.specs.declared.fault.Code.TheVariants.{BadTime, BadText, BadDuration, TooShort, TooLong, BelowMinimum, AboveMaximum, BadUrl, UrlTooLong, DuplicateKey}
 use Rattle.csvw_fault.specs.declared.fault.Code.TheVariants.{NoReferencedRow, ManyReferencedRows}
 use Rattle.csvw_fault.specs.declared.fault.Fault.{Fault}
 use Rattle.csvw_fault.specs.declared.fault.Kind.{Kind}
@@ -41,6 +41,7 @@ plain-code BadDateTime = refl
 plain-code BadDouble = refl
 plain-code BadTime = refl
 plain-code BadText = refl
+plain-code BadDuration = refl
 plain-code WrongLength = refl
 plain-code TooShort = refl
 plain-code TooLong = refl

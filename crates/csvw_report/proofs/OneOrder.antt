@@ -11,7 +11,7 @@ use Rattle.std.proofs.lemmas.List.Sums.{sum_by-cons}
 use Rattle.csvw_fault.specs.declared.fault.Code.{Code}
 use Rattle.csvw_fault.specs.declared.fault.Code.TheVariants.{UnknownProperty, HeaderMissing, HeaderCount, HeaderMismatch, Required, BadBoolean}
 use Rattle.csvw_fault.specs.declared.fault.Code.TheVariants.{BadInteger, BadDecimal, NumberTooLong, OutOfRange, BadDate, BadDateTime, BadDouble, WrongLength}
-use Rattle.csvw_fault.specs.declared.fault.Code.TheVariants.{BadTime, BadText, TooShort, TooLong, BelowMinimum, AboveMaximum, BadUrl, UrlTooLong, DuplicateKey}
+use Rattle.csvw_fault.specs.declared.fault.Code.TheVariants.{BadTime, BadText, BadDuration, TooShort, TooLong, BelowMinimum, AboveMaximum, BadUrl, UrlTooLong, DuplicateKey}
 use Rattle.csvw_fault.specs.declared.fault.Code.TheVariants.{NoReferencedRow, ManyReferencedRows}
 use Rattle.csvw_fault.specs.declared.fault.Fault.{Fault}
 use Rattle.csvw_fault.specs.declared.fault.Place.{Place}
@@ -114,7 +114,7 @@ nat_equal m n h = rw h at (ranked m n (nat_cmp m n) refl)
 abbrev all_codes : List Code
 all_codes =
     UnknownProperty ∷ HeaderMissing ∷ HeaderCount ∷ HeaderMismatch ∷ Required ∷ BadBoolean ∷ BadInteger ∷ BadDecimal
-    ∷ NumberTooLong ∷ OutOfRange ∷ BadDate ∷ BadDateTime ∷ BadDouble ∷ BadTime ∷ BadText ∷ WrongLength ∷ TooShort ∷ TooLong
+    ∷ NumberTooLong ∷ OutOfRange ∷ BadDate ∷ BadDateTime ∷ BadDouble ∷ BadTime ∷ BadText ∷ BadDuration ∷ WrongLength ∷ TooShort ∷ TooLong
     ∷ BelowMinimum ∷ AboveMaximum ∷ BadUrl ∷ UrlTooLong ∷ DuplicateKey ∷ NoReferencedRow ∷ ManyReferencedRows ∷ []
 
 -- the code of this number
@@ -137,6 +137,7 @@ code_back BadDateTime = refl
 code_back BadDouble = refl
 code_back BadTime = refl
 code_back BadText = refl
+code_back BadDuration = refl
 code_back WrongLength = refl
 code_back TooShort = refl
 code_back TooLong = refl

@@ -8,7 +8,7 @@ use Rattle.csvw_fault.specs.contracts.fault.KindOrd.TheImpl as derived_kind
 use Rattle.csvw_fault.specs.declared.fault.Code.{Code}
 use Rattle.csvw_fault.specs.declared.fault.Code.TheVariants.{UnknownProperty, HeaderMissing, HeaderCount, HeaderMismatch, Required, BadBoolean}
 use Rattle.csvw_fault.specs.declared.fault.Code.TheVariants.{BadInteger, BadDecimal, NumberTooLong, OutOfRange, BadDate, BadDateTime, BadDouble, WrongLength}
-use Rattle.csvw_fault.specs.declared.fault.Code.TheVariants.{BadTime, BadText, TooShort, TooLong, BelowMinimum, AboveMaximum, BadUrl, UrlTooLong, DuplicateKey}
+use Rattle.csvw_fault.specs.declared.fault.Code.TheVariants.{BadTime, BadText, BadDuration, TooShort, TooLong, BelowMinimum, AboveMaximum, BadUrl, UrlTooLong, DuplicateKey}
 use Rattle.csvw_fault.specs.declared.fault.Code.TheVariants.{NoReferencedRow, ManyReferencedRows}
 use Rattle.csvw_fault.specs.declared.fault.Fault.{Fault}
 use Rattle.csvw_fault.specs.declared.fault.Kind.{Kind}
@@ -46,6 +46,8 @@ code-is BadTime UnknownProperty = refl
 code-is BadTime _ = refl
 code-is BadText UnknownProperty = refl
 code-is BadText _ = refl
+code-is BadDuration UnknownProperty = refl
+code-is BadDuration _ = refl
 code-is WrongLength UnknownProperty = refl
 code-is WrongLength _ = refl
 code-is TooShort UnknownProperty = refl

@@ -5,7 +5,7 @@ use Rattle.std.specs.declared.cmp.Ordering.{Ordering}
 use Rattle.csvw_fault.specs.declared.fault.Code.{Code}
 use Rattle.csvw_fault.specs.declared.fault.Code.TheVariants.{UnknownProperty, HeaderMissing, HeaderCount, HeaderMismatch, Required, BadBoolean}
 use Rattle.csvw_fault.specs.declared.fault.Code.TheVariants.{BadInteger, BadDecimal, NumberTooLong, OutOfRange, BadDate, BadDateTime, BadDouble, WrongLength}
-use Rattle.csvw_fault.specs.declared.fault.Code.TheVariants.{BadTime, BadText, TooShort, TooLong, BelowMinimum, AboveMaximum, BadUrl, UrlTooLong, DuplicateKey}
+use Rattle.csvw_fault.specs.declared.fault.Code.TheVariants.{BadTime, BadText, BadDuration, TooShort, TooLong, BelowMinimum, AboveMaximum, BadUrl, UrlTooLong, DuplicateKey}
 use Rattle.csvw_fault.specs.declared.fault.Code.TheVariants.{NoReferencedRow, ManyReferencedRows}
 use Rattle.csvw_fault.specs.declared.fault.Fault.{Fault}
 use Rattle.csvw_fault.specs.declared.fault.Place.{Place}
@@ -42,16 +42,17 @@ code_number BadDateTime = 11
 code_number BadDouble = 12
 code_number BadTime = 13
 code_number BadText = 14
-code_number WrongLength = 15
-code_number TooShort = 16
-code_number TooLong = 17
-code_number BelowMinimum = 18
-code_number AboveMaximum = 19
-code_number BadUrl = 20
-code_number UrlTooLong = 21
-code_number DuplicateKey = 22
-code_number NoReferencedRow = 23
-code_number ManyReferencedRows = 24
+code_number BadDuration = 15
+code_number WrongLength = 16
+code_number TooShort = 17
+code_number TooLong = 18
+code_number BelowMinimum = 19
+code_number AboveMaximum = 20
+code_number BadUrl = 21
+code_number UrlTooLong = 22
+code_number DuplicateKey = 23
+code_number NoReferencedRow = 24
+code_number ManyReferencedRows = 25
 
 -- places by table, row and column
 abbrev pub place_cmp : Place → Place → Ordering

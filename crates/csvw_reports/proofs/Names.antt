@@ -7,7 +7,7 @@ use Rattle.csvw_fault.specs.Code.{name_of}
 use Rattle.csvw_fault.specs.declared.fault.Code.{Code}
 use Rattle.csvw_fault.specs.declared.fault.Code.TheVariants.{UnknownProperty, HeaderMissing, HeaderCount, HeaderMismatch, Required, BadBoolean}
 use Rattle.csvw_fault.specs.declared.fault.Code.TheVariants.{BadInteger, BadDecimal, NumberTooLong, OutOfRange, BadDate, BadDateTime, BadDouble, WrongLength}
-use Rattle.csvw_fault.specs.declared.fault.Code.TheVariants.{BadTime, BadText, TooShort, TooLong, BelowMinimum, AboveMaximum, BadUrl, UrlTooLong, DuplicateKey}
+use Rattle.csvw_fault.specs.declared.fault.Code.TheVariants.{BadTime, BadText, BadDuration, TooShort, TooLong, BelowMinimum, AboveMaximum, BadUrl, UrlTooLong, DuplicateKey}
 use Rattle.csvw_fault.specs.declared.fault.Code.TheVariants.{NoReferencedRow, ManyReferencedRows}
 use Rattle.csvw_fault.specs.declared.fault.Kind.{Kind}
 use Rattle.csvw_fault.specs.declared.fault.Kind.TheVariants.{Error, Warning}
@@ -32,6 +32,7 @@ is_at BadDateTime = refl
 is_at BadDouble = refl
 is_at BadTime = refl
 is_at BadText = refl
+is_at BadDuration = refl
 is_at WrongLength = refl
 is_at TooShort = refl
 is_at TooLong = refl
@@ -87,6 +88,7 @@ code_without_comma BadDateTime = refl
 code_without_comma BadDouble = refl
 code_without_comma BadTime = refl
 code_without_comma BadText = refl
+code_without_comma BadDuration = refl
 code_without_comma WrongLength = refl
 code_without_comma TooShort = refl
 code_without_comma TooLong = refl

@@ -9,7 +9,7 @@ ghost use Rattle.csvw_report.specs.Report.{kind_name};
 use csvw_text::{Code, Kind};
 
 /// All codes, in their order.
-pub(crate) const CODES: [Code; 25] = [
+pub(crate) const CODES: [Code; 26] = [
     Code::UnknownProperty,
     Code::HeaderMissing,
     Code::HeaderCount,
@@ -25,6 +25,7 @@ pub(crate) const CODES: [Code; 25] = [
     Code::BadDouble,
     Code::BadTime,
     Code::BadText,
+    Code::BadDuration,
     Code::WrongLength,
     Code::TooShort,
     Code::TooLong,

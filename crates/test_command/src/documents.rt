@@ -160,7 +160,7 @@ static HELPED: [Refusal; 17] = [
     },
     Refusal {
         meta: b"{\"@context\":\"http://www.w3.org/ns/csvw\",\"url\":\"p.csv\",\"tableSchema\":{\"columns\":[{\"name\":\"a\",\n\"datatype\":\"duration\"}]}}",
-        line: b"m.json:2:1: /tableSchema/columns/0/datatype: NotSupported: this part of the vocabulary is not supported: leave it out\n    the datatype duration is of the standard, but isn't supported: write string\n",
+        line: b"m.json:2:1: /tableSchema/columns/0/datatype: NotSupported: this part of the vocabulary is not supported: leave it out\n    the profile w3c has the datatype duration: write `--profile w3c`\n",
     },
     Refusal {
         meta: b"{\"@context\":\"http://www.w3.org/ns/csvw\",\"url\":\"p.csv\",\"tableSchema\":{\"columns\":[{\"name\":\"a\",\"datatype\":{\n\"base\":\"Integer\"}}]}}",

@@ -15,6 +15,8 @@ mod double_bounds;
 #[cfg(test)]
 mod double_formats;
 #[cfg(test)]
+mod durations;
+#[cfg(test)]
 mod events;
 #[cfg(test)]
 mod examples;

@@ -240,7 +240,7 @@ pub(crate) struct Refused {
     pub(crate) pointer: &'static str,
 }
 
-static REFUSED: [Refused; 19] = [
+static REFUSED: [Refused; 18] = [
     Refused {
         datatype: r##"{"base":"decimal","format":"0#"}"##,
         code: MetaCode::BadDatatype,
@@ -279,11 +279,6 @@ static REFUSED: [Refused; 19] = [
     },
     Refused {
         datatype: r#""Json""#,
-        code: MetaCode::NotSupported,
-        pointer: "",
-    },
-    Refused {
-        datatype: r#""duration""#,
         code: MetaCode::NotSupported,
         pointer: "",
     },

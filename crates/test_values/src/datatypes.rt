@@ -1,14 +1,17 @@
 //! Texts under datatypes: their values in lexical form, the facets that those break, and the datatypes that are
 //! sound.
 use crate::date_times::{DATE_TIMES, STAMPS};
+use crate::durations::DURATIONS;
 use crate::kept_texts::{NAMED, PARTS, TIMES};
 use crate::limits::{BREAKS, ONES, SOUND};
+use crate::octets::{OCTETS, SHORT_TYPES};
 use crate::patterns::PATTERNED;
 use crate::readings::{BOUNDS, DATE_FORMATS, DATES, FULL, NO_FORMATS, NUMBERS, TEXTS};
 use crate::spaced_moments::UNREAD;
 use csvw_datatype::{
-    Broken, Datatype, DateFormat, DatePart, Facets, Floating, Format, MomentFormat, NumberFormat,
-    RegularExpression, Simple, TextType, TimeFormat, TruthFormat, Value, Width, Zone,
+    BinaryForm, Broken, Datatype, DateFormat, DatePart, DurationKind, Facets, Floating, Format,
+    MomentFormat, NumberFormat, RegularExpression, Simple, TextType, TimeFormat, TruthFormat,
+    Value, Width, Zone,
 };
 use csvw_datatype_core::NumberPattern;
 use csvw_text::Text;
@@ -314,6 +317,9 @@ fn all_hold(rt: &impl Abort, alloc: Global) -> Result<(), AllocError> {
         &PARTS,
         &TIMES,
         &NAMED,
+        &SHORT_TYPES,
+        &OCTETS,
+        &DURATIONS,
         &DATE_TIMES,
         &STAMPS,
         &UNREAD,
@@ -329,7 +335,7 @@ fn texts_under_datatypes(rt: HostRuntime) -> Result<(), Fail> {
 }
 
 /// Names of datatypes, and their bases.
-static NAMES: [(&str, Option<Simple>); 18] = [
+static NAMES: [(&str, Option<Simple>); 27] = [
     ("dateTime", Some(Simple::Moment)),
     ("datetime", Some(Simple::Moment)),
     (
@@ -359,7 +365,37 @@ static NAMES: [(&str, Option<Simple>); 18] = [
     ),
     ("gDay", Some(Simple::Other(TextType::Part(DatePart::Day)))),
     ("name", None),
-    ("duration", None),
+    (
+        "normalizedString",
+        Some(Simple::Other(TextType::Normalized)),
+    ),
+    ("QName", Some(Simple::Other(TextType::QualifiedName))),
+    (
+        "hexBinary",
+        Some(Simple::Other(TextType::Binary(BinaryForm::Hex))),
+    ),
+    (
+        "base64Binary",
+        Some(Simple::Other(TextType::Binary(BinaryForm::Base64))),
+    ),
+    (
+        "binary",
+        Some(Simple::Other(TextType::Binary(BinaryForm::Base64))),
+    ),
+    (
+        "duration",
+        Some(Simple::Other(TextType::Duration(DurationKind::Any))),
+    ),
+    (
+        "yearMonthDuration",
+        Some(Simple::Other(TextType::Duration(DurationKind::YearMonth))),
+    ),
+    (
+        "dayTimeDuration",
+        Some(Simple::Other(TextType::Duration(DurationKind::DayTime))),
+    ),
+    ("hexbinary", None),
+    ("Duration", None),
 ];
 
 fn names_each(rt: &impl Abort, names: &[(&str, Option<Simple>)]) {

@@ -14,6 +14,8 @@ mod date_times;
 #[cfg(test)]
 mod doubles;
 #[cfg(test)]
+mod durations;
+#[cfg(test)]
 mod encoded;
 #[cfg(test)]
 mod expressions;
@@ -29,6 +31,8 @@ mod limited;
 mod limits;
 #[cfg(test)]
 mod links;
+#[cfg(test)]
+mod octets;
 #[cfg(test)]
 mod own;
 #[cfg(test)]

@@ -7,5 +7,5 @@ use Rattle.csvw_datatype.proofs.datatype.Datatype.is_faceted.Goals as goal
 
 pub returns-in-Truth-clause-unbroken : goal.returns-in-Truth-clause-unbroken
 returns-in-Truth-clause-unbroken c = λ none.
-    let P : Value → Type 0 = λ v. breaks v c.args.self.now.facets ≡ unbroken in
-    subst P (sym c.in-Truth.is) (unfaceted (Truth c.in-Truth.field-0) c.args.self.now.facets refl)
+    let P : Value → Type 0 = λ v. breaks c.args.self.now.simple v c.args.self.now.facets ≡ unbroken in
+    subst P (sym c.in-Truth.is) (unfaceted c.args.self.now.simple (Truth c.in-Truth.field-0) c.args.self.now.facets refl)

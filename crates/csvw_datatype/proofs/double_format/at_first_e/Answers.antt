@@ -1,10 +1,10 @@
 -- The parts of the text are those of the definition.
 use Rattle.std.proofs.Common.{lit<}
 use Rattle.std.proofs.lemmas.Str.Pattern.{split_parts}
-use Rattle.csvw_datatype.proofs.ExponentLemmas.{parts_are}
-use Rattle.csvw_datatype.proofs.double_format.at_exponent.Goals as goal
+use Rattle.csvw_datatype.proofs.SplitLemmas.{parts_are}
+use Rattle.csvw_datatype.proofs.double_format.at_first_e.Goals as goal
 
 pub returns : goal.returns
 returns c =
-    parts_are c.args.text.now c.split_once.result
+    parts_are 69 c.args.text.now c.split_once.result
     (split_parts 69 c.args.text.now c.split_once.result c.split_once.ensures.cases (lit< tt))
