@@ -21,9 +21,9 @@ same_properties p q about property value datatype default lang null ordered requ
 }
 
 pub same_column : (c d : Column) → c.name ≡ d.name → c.is_named ≡ d.is_named → c.titles ≡ d.titles → c.number ≡ d.number
-    → c.source_number ≡ d.source_number → c.is_virtual ≡ d.is_virtual → c.suppressed ≡ d.suppressed → c.predicate ≡ d.predicate
-    → c.literal_datatype ≡ d.literal_datatype → c.properties ≡ d.properties → c ≡ d
-same_column c d name named titles number source virtual suppressed predicate literal properties = λ i. record {
+    → c.source_number ≡ d.source_number → c.is_virtual ≡ d.is_virtual → c.suppressed ≡ d.suppressed → c.is_row_title ≡ d.is_row_title
+    → c.predicate ≡ d.predicate → c.literal_datatype ≡ d.literal_datatype → c.properties ≡ d.properties → c ≡ d
+same_column c d name named titles number source virtual suppressed row_title predicate literal properties = λ i. record {
   name = name i;
   is_named = named i;
   titles = titles i;
@@ -31,6 +31,7 @@ same_column c d name named titles number source virtual suppressed predicate lit
   source_number = source i;
   is_virtual = virtual i;
   suppressed = suppressed i;
+  is_row_title = row_title i;
   predicate = predicate i;
   literal_datatype = literal i;
   properties = properties i;

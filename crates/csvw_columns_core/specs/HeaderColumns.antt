@@ -7,7 +7,7 @@ use Rattle.csvw_columns_core.specs.declared.header.HeaderRow.{HeaderRow}
 
 -- a column that has these titles alone
 abbrev pub titled_column : List (List ℕ) → ColumnDescription
-titled_column titles = record { name = None; titles = titles; is_virtual = false; suppressed = false; inherited = no_inherited; warnings = [] }
+titled_column titles = record { name = None; titles = titles; is_virtual = false; suppressed = false; is_row_title = false; inherited = no_inherited; warnings = [] }
 
 -- the header cells of the column at this place that aren't empty
 abbrev pub titles_at : List HeaderRow → ℕ → List (List ℕ)

@@ -21,6 +21,7 @@ declared url skipped schema table group n c = record {
   source_number = source_number_of c.is_virtual skipped n;
   is_virtual = c.is_virtual;
   suppressed = c.suppressed;
+  is_row_title = c.is_row_title;
   predicate = url ++ codes "#" ++ name_of n c;
   literal_datatype = literal_datatype (properties_of c.inherited schema table group).datatype;
   properties = properties_of c.inherited schema table group;

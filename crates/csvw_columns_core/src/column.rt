@@ -21,6 +21,8 @@ pub struct Column {
     pub is_virtual: bool,
     /// Whether the cells of the column are left out of the graph.
     pub suppressed: bool,
+    /// Whether the values of its cells are titles of their rows (section 4.4).
+    pub is_row_title: bool,
     /// The predicate of the cells' triples if there is no property link: the table's URL, `#` and the name (csv2rdf,
     /// section 4.6.5).
     pub predicate: Iri,

@@ -53,6 +53,7 @@ impl Column {
             source_number: self.source_number,
             is_virtual: self.is_virtual,
             suppressed: self.suppressed,
+            is_row_title: self.is_row_title,
             predicate,
             literal_datatype,
             properties,

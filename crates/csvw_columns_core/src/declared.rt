@@ -83,6 +83,7 @@ impl Frame {
             source_number: source_number_of(description.is_virtual, self.skip_columns, number),
             is_virtual: description.is_virtual,
             suppressed: description.suppressed,
+            is_row_title: description.is_row_title,
             predicate,
             literal_datatype,
             properties,

@@ -28,6 +28,7 @@ fn titled_column(alloc: Global, titles: Seq<Text>) -> ColumnDescription
         titles,
         is_virtual: false,
         suppressed: false,
+        is_row_title: false,
         inherited: no_inherited(),
         warnings: Seq::new(alloc),
     }

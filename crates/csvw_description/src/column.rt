@@ -19,6 +19,8 @@ pub struct ColumnDescription {
     pub is_virtual: bool,
     /// Whether the cells of the column are left out of the graph (`suppressOutput`).
     pub suppressed: bool,
+    /// Whether the values of its cells are titles of their rows (`rowTitles` of the schema, section 5.5).
+    pub is_row_title: bool,
     /// The inherited properties of the column.
     pub inherited: Inherited,
     /// A warning for each property that is ignored, in the column or in its datatype.

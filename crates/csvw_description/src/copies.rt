@@ -52,6 +52,7 @@ impl ColumnDescription {
             titles,
             is_virtual: self.is_virtual,
             suppressed: self.suppressed,
+            is_row_title: self.is_row_title,
             inherited,
             warnings,
         })

@@ -67,7 +67,7 @@ to_flat f (z ∷ xs) x y h k =
     ]
 
 -- the same of a list of the images
-from_map : {X Y : Type 0} (f : X → Y) (xs : List X) (y : Y) → Contains (map f xs) y → (x : X) × Contains xs x × (y ≡ f x)
+pub from_map : {X Y : Type 0} (f : X → Y) (xs : List X) (y : Y) → Contains (map f xs) y → (x : X) × Contains xs x × (y ≡ f x)
 from_map f [] y h = absurd (none_in y h)
 from_map f (x ∷ xs) y h =
     elim (in_cons (f x) (map f xs) y h) [
@@ -75,7 +75,7 @@ from_map f (x ∷ xs) y h =
       | inr k ↦ let (later, inside, image) = from_map f xs y k in (later, later_in x xs later inside, image)
     ]
 
-to_map : {X Y : Type 0} (f : X → Y) (xs : List X) (x : X) (y : Y) → Contains xs x → y ≡ f x → Contains (map f xs) y
+pub to_map : {X Y : Type 0} (f : X → Y) (xs : List X) (x : X) (y : Y) → Contains xs x → y ≡ f x → Contains (map f xs) y
 to_map f [] x y h e = absurd (none_in x h)
 to_map f (z ∷ xs) x y h e =
     elim (in_cons z xs x h) [

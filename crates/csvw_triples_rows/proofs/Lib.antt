@@ -4,6 +4,8 @@ mod Graphs
 mod Fragments
 mod Walking
 mod Standards
+mod TitleWalks
+mod TitleGraphs
 mod StandardGraphs
 mod ModeGraphs
 mod Tagged

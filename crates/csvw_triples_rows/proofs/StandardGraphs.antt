@@ -7,14 +7,23 @@ use Rattle.csvw_columns_core.specs.declared.columns.Columns.{Columns}
 use Rattle.csvw_annotate.specs.declared.row.Row.{Row}
 use Rattle.csvw_triples_core.specs.declared.term.Triple.{Triple}
 use Rattle.csvw_triples_rows.specs.RowTriples.{cells_triples}
+use Rattle.csvw_triples_rows.specs.RowTitles.{titles_triples}
 use Rattle.csvw_triples_rows.specs.Standard.{IsOfRow, StandardRow, StandardRows}
-use Rattle.csvw_triples_rows.specs.StandardTriples.{member_triple, class_triple, number_triple, url_triple, row_front, described_cells, standard_triples}
+use Rattle.csvw_triples_rows.specs.StandardTriples.{member_triple, class_triple, number_triple, url_triple, row_front}
+use Rattle.csvw_triples_rows.specs.StandardTriples.{described_cells, row_contents, standard_triples}
 use Rattle.csvw_triples_rows.proofs.Graphs.{none_in, later_in, in_cons, is_first, from_flat, to_flat, unless, given, from_row, to_row}
 use Rattle.csvw_triples_rows.proofs.Standards.{from_cells, to_cells, to_described}
+use Rattle.csvw_triples_rows.proofs.TitleGraphs.{from_titles, to_titles}
 
 module _ (t : ℕ) (columns : Columns) (row : Row) where
   abbrev described : List Triple
   described = described_cells t row.number None (zip columns.columns row.cells)
+
+  abbrev titles : List Triple
+  titles = titles_triples t row.number columns.columns row.cells
+
+  abbrev contents : List Triple
+  contents = row_contents t row.number columns.columns row.cells
 
   abbrev minimal : List Triple
   minimal = cells_triples t row.number columns.columns row.cells
@@ -45,28 +54,41 @@ module _ (t : ℕ) (columns : Columns) (row : Row) where
         ]
       ]
 
-  to_standard : (x : Triple) → columns.suppressed ≡ false → Contains (row_front t columns row ++ described) x → Contains (standard_triples t columns row) x
-  to_standard x e h = given columns.suppressed (row_front t columns row ++ described) x e h
+  to_standard : (x : Triple) → columns.suppressed ≡ false → Contains (row_front t columns row ++ contents) x → Contains (standard_triples t columns row) x
+  to_standard x e h = given columns.suppressed (row_front t columns row ++ contents) x e h
 
   in_front : (x : Triple) → columns.suppressed ≡ false → Contains (row_front t columns row) x → Contains (standard_triples t columns row) x
-  in_front x e h = to_standard x e (Contains-append_left (row_front t columns row) described x h)
+  in_front x e h = to_standard x e (Contains-append_left (row_front t columns row) contents x h)
+
+  in_contents : (x : Triple) → columns.suppressed ≡ false → Contains contents x → Contains (standard_triples t columns row) x
+  in_contents x e h = to_standard x e (Contains-append_right (row_front t columns row) contents x h)
+
+  in_titles : (x : Triple) → columns.suppressed ≡ false → Contains titles x → Contains (standard_triples t columns row) x
+  in_titles x e h = in_contents x e (Contains-append_left titles described x h)
 
   in_described : (x : Triple) → columns.suppressed ≡ false → Contains described x → Contains (standard_triples t columns row) x
-  in_described x e h = to_standard x e (Contains-append_right (row_front t columns row) described x h)
+  in_described x e h = in_contents x e (Contains-append_right titles described x h)
 
   of_cells : (x : Triple) → columns.suppressed ≡ false → Contains described x → StandardRow t columns row x
   of_cells x e h =
       elim (from_cells t row.number None (zip columns.columns row.cells) x h) [
         | inl c ↦ inl (from_row t columns row x (given columns.suppressed minimal x e c))
-        | inr d ↦ inr (e, inr (inr (inr (inr d))))
+        | inr d ↦ inr (e, inr (inr (inr (inr (inr d)))))
+      ]
+
+  of_contents : (x : Triple) → columns.suppressed ≡ false → Contains contents x → StandardRow t columns row x
+  of_contents x e h =
+      elim (Contains-append_cases titles described x h) [
+        | inl k ↦ inr (e, inr (inr (inr (inr (inl (from_titles t columns row x k))))))
+        | inr k ↦ of_cells x e k
       ]
 
   pub from_standard : (x : Triple) → Contains (standard_triples t columns row) x → StandardRow t columns row x
   from_standard x h =
-      let k = unless columns.suppressed (row_front t columns row ++ described) x h in
-      elim (Contains-append_cases (row_front t columns row) described x k.1) [
+      let k = unless columns.suppressed (row_front t columns row ++ contents) x h in
+      elim (Contains-append_cases (row_front t columns row) contents x k.1) [
         | inl f ↦ inr (k.0, from_front x f)
-        | inr c ↦ of_cells x k.0 c
+        | inr c ↦ of_contents x k.0 c
       ]
 
   is_of_row : (x : Triple) → columns.suppressed ≡ false → IsOfRow t columns row x → Contains (standard_triples t columns row) x
@@ -83,7 +105,10 @@ module _ (t : ℕ) (columns : Columns) (row : Row) where
               | inl f ↦
                   in_front x e (later_in (member_triple t columns row.number) behind_one x (later_in (class_triple t row.number) behind_two x
                   (later_in (number_triple t row.number) behind_three x (is_first (url_triple t columns row) [] x f))))
-              | inr d ↦ in_described x e (to_described t row.number (zip columns.columns row.cells) x d)
+              | inr n ↦ elim n [
+                | inl k ↦ in_titles x e (to_titles t columns row x k)
+                | inr d ↦ in_described x e (to_described t row.number (zip columns.columns row.cells) x d)
+              ]
             ]
           ]
         ]

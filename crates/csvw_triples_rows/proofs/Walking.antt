@@ -53,7 +53,7 @@ next_triple xs i x h e =
 
 -- the cells from one on
 
-next_pair : (columns : List Column) (cells : List AnnCell) (i : ℕ) (c : Column) (v : AnnCell) → i < length columns → i < length cells
+pub next_pair : (columns : List Column) (cells : List AnnCell) (i : ℕ) (c : Column) (v : AnnCell) → i < length columns → i < length cells
     → drop i (zip columns cells) ≡ (get_or columns i c, get_or cells i v) ∷ drop (suc i) (zip columns cells)
 next_pair [] cells i c v h k = absurd (omega (arith, h))
 next_pair (x ∷ columns) [] i c v h k = absurd (omega (arith, k))

@@ -29,6 +29,10 @@ row_class = codes "http://www.w3.org/ns/csvw#Row"
 abbrev pub csvw_rownum : List ℕ
 csvw_rownum = codes "http://www.w3.org/ns/csvw#rownum"
 
+-- csvw:title, from a row to its titles
+abbrev pub csvw_title : List ℕ
+csvw_title = codes "http://www.w3.org/ns/csvw#title"
+
 -- csvw:describes, from a row to the subjects of its cells
 abbrev pub csvw_describes : List ℕ
 csvw_describes = codes "http://www.w3.org/ns/csvw#describes"

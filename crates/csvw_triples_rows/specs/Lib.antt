@@ -6,6 +6,7 @@ pub mod Spelled
 pub mod Stems
 pub mod Graph
 pub mod CsvwVocabulary
+pub mod RowTitles
 pub mod StandardTriples
 pub mod Standard
 pub mod ModeTriples

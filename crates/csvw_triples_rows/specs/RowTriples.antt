@@ -9,7 +9,7 @@ use Rattle.csvw_cell.specs.declared.cell.CellValue.TheVariants.{Null, One, Many}
 use Rattle.csvw_annotate.specs.declared.row.AnnCell.{AnnCell}
 use Rattle.csvw_annotate.specs.declared.row.Row.{Row}
 use Rattle.csvw_triples_core.specs.declared.origin.Origin.{Origin}
-use Rattle.csvw_triples_core.specs.declared.origin.Origin.TheVariants.{Subject, Entry}
+use Rattle.csvw_triples_core.specs.declared.origin.Origin.TheVariants as origin
 use Rattle.csvw_triples_core.specs.declared.term.Node.{Node}
 use Rattle.csvw_triples_core.specs.declared.term.Node.TheVariants as node
 use Rattle.csvw_triples_core.specs.declared.term.Term.{Term}
@@ -21,9 +21,13 @@ use Rattle.csvw_triples_rows.specs.Vocabulary.{rdf_first, rdf_rest, rdf_nil}
 abbrev pub triple : Node → List ℕ → Term → Triple
 triple s p o = record { s = s; p = p; o = o }
 
+-- a row of table t, by its number
+abbrev pub row_node : ℕ → ℕ → Node
+row_node t number = node.Blank (origin.Row t number)
+
 -- a subject: the about link, else the default subject of the row, a blank node
 abbrev pub subject_by : ℕ → ℕ → Option (List ℕ) → Node
-subject_by t number None = node.Blank (Subject t number)
+subject_by t number None = node.Blank (origin.Subject t number)
 subject_by t number (Some iri) = node.Named iri
 
 abbrev pub subject_of : ℕ → ℕ → AnnCell → Node
@@ -35,7 +39,7 @@ predicate_of column cell = unwrap_or cell.property column.predicate
 
 -- the entries of an ordered list, from 1
 abbrev pub entries_of : ℕ → ℕ → Column → ℕ → Origin
-entries_of t number column k = Entry t number column.number k
+entries_of t number column k = origin.Entry t number column.number k
 
 -- the node of a list whose first entry has number k
 abbrev pub list_node : (ℕ → Origin) → ℕ → List Item → Term

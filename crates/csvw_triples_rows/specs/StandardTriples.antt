@@ -14,17 +14,14 @@ use Rattle.csvw_triples_core.specs.declared.term.Term.{Term}
 use Rattle.csvw_triples_core.specs.declared.term.Term.TheVariants as term
 use Rattle.csvw_triples_core.specs.declared.term.Triple.{Triple}
 use Rattle.csvw_triples_core.specs.Literal.{typed_lit}
-use Rattle.csvw_triples_rows.specs.RowTriples.{triple, subject_of, cell_triples}
+use Rattle.csvw_triples_rows.specs.RowTriples.{triple, row_node, subject_of, cell_triples}
+use Rattle.csvw_triples_rows.specs.RowTitles.{titles_triples}
 use Rattle.csvw_triples_rows.specs.CsvwVocabulary.{row_of_table, row_class, csvw_rownum, csvw_url, csvw_describes, rdf_type}
 
 -- a table: its `@id`, else its blank node
 abbrev pub table_node : ℕ → Option (List ℕ) → Node
 table_node t None = node.Blank (origin.Table t)
 table_node t (Some id) = node.Named id
-
--- a row of table t, by its number
-abbrev pub row_node : ℕ → ℕ → Node
-row_node t number = node.Blank (origin.Row t number)
 
 -- a node as an object
 abbrev pub object_of : Node → Term
@@ -93,8 +90,12 @@ described_cells t number last [] = []
 described_cells t number last (p ∷ pairs) =
     described_triples t number p.0 last p.1 ++ described_cells t number (last_after p.0 last p.1) pairs
 
+-- what comes after the front of a row: its titles, and then the triples of its cells with what it describes
+abbrev pub row_contents : ℕ → ℕ → List Column → List AnnCell → List Triple
+row_contents t number columns cells = titles_triples t number columns cells ++ described_cells t number None (zip columns cells)
+
 -- the triples of a row of table t in standard mode; a suppressed table has none
 abbrev pub standard_triples : ℕ → Columns → Row → List Triple
 standard_triples t columns row =
     if columns.suppressed then []
-    else row_front t columns row ++ described_cells t row.number None (zip columns.columns row.cells)
+    else row_front t columns row ++ row_contents t row.number columns.columns row.cells

@@ -20,6 +20,8 @@ pub struct CsvwNames {
     pub rownum: Iri,
     /// csvw:url.
     pub url: Iri,
+    /// csvw:title.
+    pub title: Iri,
     /// csvw:describes.
     pub describes: Iri,
     /// xsd:integer.
@@ -29,6 +31,7 @@ pub struct CsvwNames {
     pub ghost is_row_class: { row_class ≡ vocabulary.row_class },
     pub ghost is_rownum: { rownum ≡ vocabulary.csvw_rownum },
     pub ghost is_url: { url ≡ vocabulary.csvw_url },
+    pub ghost is_title: { title ≡ vocabulary.csvw_title },
     pub ghost is_describes: { describes ≡ vocabulary.csvw_describes },
     pub ghost is_integer: { integer ≡ xsd_integer },
 }
@@ -41,19 +44,21 @@ impl CsvwNames {
         let row_class = named(alloc, "http://www.w3.org/ns/csvw#Row");
         let rownum = named(alloc, "http://www.w3.org/ns/csvw#rownum");
         let url = named(alloc, "http://www.w3.org/ns/csvw#url");
+        let title = named(alloc, "http://www.w3.org/ns/csvw#title");
         let describes = named(alloc, "http://www.w3.org/ns/csvw#describes");
         let integer = named(alloc, "http://www.w3.org/2001/XMLSchema#integer");
         let classes = both(rdf_type, both(row, row_class));
-        let rest = both(both(rownum, url), both(describes, integer));
+        let rest = both(both(rownum, url), both(both(title, describes), integer));
         let (classes, rest) = both(classes, rest)?;
         let (rdf_type, (row, row_class)) = classes;
-        let ((rownum, url), (describes, integer)) = rest;
+        let ((rownum, url), ((title, describes), integer)) = rest;
         Ok(CsvwNames {
             rdf_type,
             row,
             row_class,
             rownum,
             url,
+            title,
             describes,
             integer,
         })

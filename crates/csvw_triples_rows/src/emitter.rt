@@ -38,11 +38,11 @@ pub struct Emitter {
     /// Where its memory comes from.
     pub(crate) alloc: Global,
     /// The names of RDF.
-    names: RdfNames,
+    pub(crate) names: RdfNames,
     /// The names of CSVW.
     pub(crate) csvw: CsvwNames,
     /// The lexical form of the last value that was no text. The next one is written over it.
-    form: Text,
+    pub(crate) form: Text,
     /// The fragment of a row's IRI: its place in its source.
     pub(crate) fragment: Text,
     /// The IRI of the row that was written last. The next one is made in its memory.
@@ -419,8 +419,8 @@ impl Emitter {
     ///
     /// - Mode `Validate` has no triples.
     /// - Mode `Minimal` has the triples of the cells, in the order of the cells.
-    /// - Mode `Standard` has the triples about the row first. Before the triples of a cell it has what the cell
-    ///   adds to what the row describes.
+    /// - Mode `Standard` has the triples about the row first, and then its titles. Before the triples of a cell it
+    ///   has what the cell adds to what the row describes.
     ///
     /// The fault is one that the sink returned in this call, or `Memory`. After an error the sink took a front of
     /// the triples, each of them whole. After `Device` the device failed within the next triple.

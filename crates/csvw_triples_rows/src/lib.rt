@@ -10,6 +10,8 @@
 //!   of csv2rdf's minimal mode. Standard mode adds the triples about the row.
 //! - Standard mode has a `csvw:describes` for the subject of each cell, null or not, whose column is not suppressed
 //!   (`RowGraph`).
+//! - Standard mode has a `csvw:title` for each value of a cell whose column is one of the row titles, suppressed or
+//!   not. Null has none. The title is in the language of the column, or a string if that is unknown (`RowGraph`).
 //! - As a set, the triples of all rows of a table are its graph (`rows_triples_are_table_graph`).
 //! - After `Memory` the sink is open as before, and its count of failures is the same. After `Device` it is closed,
 //!   and the count is higher if it has room. `Closed` comes only from a sink that was closed (`Ends`).
@@ -23,6 +25,7 @@ mod putting;
 mod rdf;
 mod standard;
 mod stem;
+mod titles;
 
 pub use csvw_triples_core::{
     Lit, Mode, Node, Origin, SinkFault, Term, Triple, TripleSink, VecSink,

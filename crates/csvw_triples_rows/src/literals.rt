@@ -6,6 +6,7 @@ ghost use Rattle.csvw_datatype.specs.Strings.{is_string};
 ghost use Rattle.csvw_triples_core.specs.Lent.{lit_of};
 ghost use Rattle.csvw_triples_core.specs.Literal.{tagged_lit, typed_lit};
 ghost use Rattle.csvw_triples_rows.specs.Literals.{has_language, literal_of, read_literal};
+ghost use Rattle.csvw_triples_rows.specs.RowTitles.{text_literal, title_literal};
 ghost use Rattle.csvw_triples_rows.specs.Spelled.{spelled};
 
 use crate::rdf::RdfNames;
@@ -89,6 +90,33 @@ fn read_literal<'a>(names: &'a RdfNames, column: &'a Column, text: &'a str) -> L
         return tagged(text, &names.lang_string, column.properties.lang.get());
     }
     typed(text, &column.literal_datatype)
+}
+
+/// Lends the literal of a text in the language of its column.
+fn text_literal<'a>(names: &'a RdfNames, column: &'a Column, text: &'a str) -> LitRef<'a>
+    ensures { lit_of result ≡ text_literal column.now text.now }
+{
+    let tag = column.properties.lang.get();
+    if is_undetermined(tag) {
+        return typed(text, &names.string);
+    }
+    tagged(text, &names.lang_string, tag)
+}
+
+/// Lends the literal of a title, by the lexical form of its value.
+pub(crate) fn title_literal<'a>(
+    names: &'a RdfNames,
+    column: &'a Column,
+    item: &Item,
+    text: &'a str,
+) -> LitRef<'a>
+    requires { text.now ≡ lexical_of item.now.value }
+    ensures { lit_of result ≡ title_literal column.now item.now }
+{
+    if item.was_read && column.properties.datatype.get().is_string() {
+        return text_literal(names, column, text);
+    }
+    typed(text, &names.string)
 }
 
 /// Lends the literal of a value, by its lexical form.

@@ -6,11 +6,11 @@ ghost use Rattle.csvw_triples_core.specs.Taking.{FrontOf, Ends};
 ghost use Rattle.csvw_cell.specs.HasForm.{HasForm};
 ghost use Rattle.csvw_annotate.specs.HasForms.{CellsHaveForms, HasForms};
 ghost use Rattle.csvw_triples_rows.specs.Puts.{Puts};
-ghost use Rattle.csvw_triples_rows.specs.RowTriples.{subject_of};
-ghost use Rattle.csvw_triples_rows.specs.StandardTriples.{table_node, row_node, object_of, row_fragment, row_url};
+ghost use Rattle.csvw_triples_rows.specs.RowTriples.{row_node, subject_of};
+ghost use Rattle.csvw_triples_rows.specs.StandardTriples.{table_node, object_of, row_fragment, row_url};
 ghost use Rattle.csvw_triples_rows.specs.StandardTriples.{member_triple, class_triple, number_triple, url_triple, row_front};
 ghost use Rattle.csvw_triples_rows.specs.StandardTriples.{same_about, is_described, describes_triples, described_triples};
-ghost use Rattle.csvw_triples_rows.specs.StandardTriples.{last_after, described_cells, standard_triples};
+ghost use Rattle.csvw_triples_rows.specs.StandardTriples.{last_after, described_cells, row_contents, standard_triples};
 
 use crate::emitter::Emitter;
 use crate::literals::typed;
@@ -53,7 +53,7 @@ fn subject_as_object(place: RowPlace, cell: &AnnCell) -> TermRef<'_>
 }
 
 /// Lends a subject and a predicate: the row and the one that is given.
-fn row_stem(place: RowPlace, predicate: &Iri) -> Stem<'_>
+pub(crate) fn row_stem(place: RowPlace, predicate: &Iri) -> Stem<'_>
     ensures s { node_of result.s ≡ row_node place.table place.row }
     ensures p { result.p.now ≡ predicate.now }
 {
@@ -273,6 +273,23 @@ impl Emitter {
         Ok(())
     }
 
+    /// Writes the titles of a row, and then the triples of its cells with what it describes.
+    fn emit_contents<S: TripleSink>(
+        &mut self,
+        place: RowPlace,
+        columns: &[Column],
+        cells: &[AnnCell],
+        sink: &mut S,
+    ) -> Result<(), SinkFault>
+        requires places { length cells.now ≡ length columns.now }
+        requires forms { CellsHaveForms cells.now }
+        ensures { Puts S.gains S.cuts S.is_open S.failed sink.old
+            (row_contents place.table place.row columns.now cells.now) sink.new result }
+    {
+        self.emit_titles(place, columns, cells, sink)?;
+        self.emit_all_described(place, columns, cells, sink)
+    }
+
     /// Writes the triples of a row of table `t` in standard mode, in their order (csv2rdf, section 4.2). The values
     /// of the row have lexical forms.
     pub(crate) fn emit_standard<S: TripleSink>(
@@ -294,7 +311,7 @@ impl Emitter {
             row: row.number,
         };
         self.emit_front(columns, t, row, sink)?;
-        self.emit_all_described(
+        self.emit_contents(
             place,
             columns.columns.as_slice(),
             row.cells.as_slice(),

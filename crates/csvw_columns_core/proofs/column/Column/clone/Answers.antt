@@ -9,4 +9,4 @@ returns c =
     let rest = rw c.in_ok-names.ensures.1 at c.both.ensures in
     let iris = rw rest.0 at c.both_copied-iris.ensures in
     let properties = rw rest.1 at c.clone.ensures in
-    same_column _ _ names.0 refl names.1 refl refl refl refl iris.0 iris.1 properties
+    same_column _ _ names.0 refl names.1 refl refl refl refl refl iris.0 iris.1 properties

@@ -12,6 +12,6 @@ returns c =
     let predicate = rw texts.0 at c.with_fragment.ensures in
     let titles = rw texts.1 at c.clone.ensures in
     let inherited = rw c.in_ok-predicate.ensures.1 at c.inherited-inherited.ensures in
-    same_column _ _ name c.is_some.ensures titles refl c.source_number_of.ensures refl refl
+    same_column _ _ name c.is_some.ensures titles refl c.source_number_of.ensures refl refl refl
     (same_fragment predicate c.iri.ensures.value c.as_str.ensures.value name)
     (inherited.1 ∙ ap (λ (p : Properties). literal_datatype p.datatype) inherited.0) inherited.0
