@@ -13,7 +13,7 @@ use Rattle.csvw_meta_keys.specs.declared.column_names.KeyName.{KeyName}
 use Rattle.csvw_meta_keys.specs.declared.foreign_key.ForeignKeyFound.{ForeignKeyFound}
 use Rattle.csvw_meta_keys.specs.declared.keys.KeysFound.{KeysFound}
 use Rattle.csvw_meta_keys.specs.Described.{names_of, described}
-use Rattle.csvw_meta_keys.specs.Naming.{all_known, bad_reference, faults_to, foreign_faults, has_name, key_faults, name_fault, name_faults}
+use Rattle.csvw_meta_keys.specs.Naming.{all_known, bad_reference, faults_to, foreign_faults, has_name, key_faults, name_fault, name_faults, own_faults}
 use Rattle.csvw_meta_keys.specs.Naming.{side_faults, target_of}
 use Rattle.csvw_meta_core.specs.Fine.{none_in_both}
 use Rattle.csvw_meta.specs.declared.table.TableFound.{TableFound}
@@ -124,9 +124,10 @@ module _ (g : GroupFound) where
       → KeysResolve (description_of g) schema
   resolve schema keys describes h =
       let own = numbered_names 0 schema.columns in
-      let parts = none_in_both (name_faults all_known own keys.primary) (flat_map (foreign_faults all_known own (targets g)) keys.foreign) h in
+      let parts = none_in_both (own_faults all_known own keys) (flat_map (foreign_faults all_known own (targets g)) keys.foreign) h in
+      let names = none_in_both (name_faults all_known own keys.primary) (name_faults all_known own keys.row_titles) parts.0 in
       record {
-        primary_key = subst (AreAmong own) (sym describes.primary_key) (all_among own keys.primary parts.0);
+        primary_key = subst (AreAmong own) (sym describes.primary_key) (all_among own keys.primary names.0);
         foreign_keys =
             subst (All (IsForeignKey (description_of g) own)) (sym describes.foreign_keys) (all_referenced own keys.foreign parts.1);
       }

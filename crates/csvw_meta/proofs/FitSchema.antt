@@ -1,8 +1,8 @@
 -- A schema in a document without faults has no more columns than the limit, and no two columns of the same name.
-use Rattle.std.proofs.Common.{◌≡◌, ◌≢◌, ◌≤◌, ◌+◌, ℕ, List, [], ◌∷◌, ◌++◌, ◌||◌, Bool, true, false, refl, sym, ◌∙◌, subst, arith, length, append_assoc}
+use Rattle.std.proofs.Common.{◌≡◌, ◌≢◌, ◌≤◌, ◌+◌, ℕ, List, [], ◌∷◌, ◌++◌, ◌||◌, Bool, true, false, refl, sym, ap, ◌∙◌, subst, arith, length, append_assoc}
 use Rattle.std.proofs.Common.{All, AllPairs, map, IfSome, Option, Some, None, bytes_eq, codes, if◌then◌else◌}
 use Rattle.std.specs.List.{list_any}
-use Rattle.std.proofs.lemmas.List.Elements.{All-cons}
+use Rattle.std.proofs.lemmas.List.Elements.{All-cons, All-head, All-tail}
 use Rattle.std.proofs.lemmas.List.Folds.{list_any-append}
 use Rattle.std.proofs.lemmas.List.Kept.{AllPairs-cons}
 use Rattle.std.proofs.lemmas.Slice.Eq.{bytes_eq-Decides}
@@ -13,12 +13,12 @@ use Rattle.csvw_fault.specs.declared.fault.Place.{Place}
 use Rattle.csvw_datatype.specs.Sound.{IsSound}
 use Rattle.csvw_description.specs.declared.column.ColumnDescription.{ColumnDescription}
 use Rattle.csvw_description.specs.declared.schema.Schema.{Schema}
-use Rattle.csvw_description.specs.Name.{numbered_names}
+use Rattle.csvw_description.specs.Name.{name_of, numbered_names}
 use Rattle.csvw_description.specs.Plannable.{HasSound, IsFitSchema}
 use Rattle.csvw_meta_core.specs.declared.fault.MetaCode.TheVariants.{DuplicateName}
 use Rattle.csvw_meta_core.specs.declared.fault.MetaFault.{MetaFault}
 use Rattle.csvw_meta_core.specs.Pointer.{below, item_at}
-use Rattle.csvw_meta_core.specs.Read.{Read, given, under, property, optional, not_yet}
+use Rattle.csvw_meta_core.specs.Read.{Read, given, under, property, optional}
 use Rattle.csvw_meta_core.specs.Kinds.{fixed}
 use Rattle.csvw_meta_core.specs.Links.{id}
 use Rattle.csvw_meta_notes.specs.Unlisted.{unlisted}
@@ -26,6 +26,7 @@ use Rattle.csvw_meta_datatype.specs.declared.form.DatatypeFound.{DatatypeFound}
 use Rattle.csvw_meta_datatype.specs.Datatypes.{datatype}
 use Rattle.csvw_meta_keys.specs.declared.keys.KeysFound.{KeysFound}
 use Rattle.csvw_meta_keys.specs.Described.{names_of, described}
+use Rattle.csvw_meta_keys.specs.Keys.{keys}
 use Rattle.csvw_meta_core.specs.declared.context.Context.{Context}
 use Rattle.csvw_meta_core.specs.declared.profile.Profile.{Profile}
 use Rattle.csvw_meta.specs.declared.schema.SchemaFound.{SchemaFound}
@@ -35,7 +36,7 @@ use Rattle.csvw_meta_core.specs.Fine.{Ensures, none_in_both, also_fine, on_linke
 use Rattle.csvw_meta_inherited.specs.Inherited.{inherited}
 use Rattle.csvw_meta_inherited.specs.Names.{inherited_names}
 use Rattle.csvw_meta_notes.specs.Places.{place_of}
-use Rattle.csvw_meta.specs.Schema.{schema_names}
+use Rattle.csvw_meta.specs.Schema.{schema_names, with_row_title, with_row_titles}
 use Rattle.csvw_meta.specs.Repeated.{repeated}
 use Rattle.csvw_meta.specs.Schema.{columns, column_faults, order_faults, name_faults, no_schema, schema, schema_of}
 use Rattle.csvw_meta_core.specs.Several.{several}
@@ -114,6 +115,30 @@ named_fine at cs several h = record {
 no_columns : AreFitColumns []
 no_columns = record { sound = λ k d lt. absurd (omega (arith, lt)); count = omega arith; names = λ i j d less lt. absurd (omega (arith, lt)) }
 
+-- ---- columns whose values are titles of their rows
+
+-- The names and the number of the columns stay the same, and so do their datatypes.
+titled_names : (names : List (List ℕ)) (i : ℕ) (cs : List ColumnDescription) → numbered_names i (with_row_titles names i cs) ≡ numbered_names i cs
+titled_names names i [] = refl
+titled_names names i (c ∷ cs) = ap (λ ns. name_of (i + 1) c ∷ ns) (titled_names names (i + 1) cs)
+
+titled_count : (names : List (List ℕ)) (i : ℕ) (cs : List ColumnDescription) → length (with_row_titles names i cs) ≡ length cs
+titled_count names i [] = refl
+titled_count names i (c ∷ cs) = let e = titled_count names (i + 1) cs in omega (arith, e)
+
+titled_sound : (names : List (List ℕ)) (i : ℕ) (cs : List ColumnDescription) → All IsSoundColumn cs → All IsSoundColumn (with_row_titles names i cs)
+titled_sound names i [] h = h
+titled_sound names i (c ∷ cs) h =
+    All-cons IsSoundColumn (with_row_title names (i + 1) c) (with_row_titles names (i + 1) cs) (All-head IsSoundColumn c cs h)
+    (titled_sound names (i + 1) cs (All-tail IsSoundColumn c cs h))
+
+titled_fit : (names : List (List ℕ)) (cs : List ColumnDescription) → AreFitColumns cs → AreFitColumns (with_row_titles names 0 cs)
+titled_fit names cs fits = record {
+  sound = titled_sound names 0 cs fits.sound;
+  count = subst (λ n. n ≤ 1024) (sym (titled_count names 0 cs)) fits.count;
+  names = subst (AllPairs (λ x y. x ≢ y)) (sym (titled_names names 0 cs)) fits.names;
+}
+
 -- ---- columns and schemas
 
 -- The schema describes the keys that are found in it.
@@ -163,10 +188,11 @@ module _ (datatypes : DatatypesFit) where
   schema_of_fine context table at d h =
       let p1 = none_in_both (optional (id context.base) at d (codes "@id")).faults _ h in
       let p2 = none_in_both (optional (fixed (codes "Schema")) at d (codes "@type")).faults _ p1.1 in
-      let p3 = none_in_both (optional not_yet at d (codes "rowTitles")).faults _ p2.1 in
-      let p4 = none_in_both (unlisted context.base context.language (schema_names ++ inherited_names) (place_of table 0) at d).faults _ p3.1 in
-      let p5 = none_in_both (property (columns context table) [] at d (codes "columns")).faults _ p4.1 in
-      let fits = property_fine AreFitColumns (columns context table) (columns_fine context table) [] no_columns at d (codes "columns") p5.0 in
+      let p3 = none_in_both (unlisted context.base context.language (schema_names ++ inherited_names) (place_of table 0) at d).faults _ p2.1 in
+      let p4 = none_in_both (property (columns context table) [] at d (codes "columns")).faults _ p3.1 in
+      let all = property_fine AreFitColumns (columns context table) (columns_fine context table) [] no_columns at d (codes "columns") p4.0 in
+      let titles = names_of (keys context.profile context.base (place_of table 0) at d).value.row_titles in
+      let fits = titled_fit titles (property (columns context table) [] at d (codes "columns")).value all in
       record {
         schema = record {
           limit = fits.count;

@@ -8,6 +8,7 @@ mod OverLemmas
 mod ReadLemmas
 mod ReferencesLemmas
 mod RepeatedLemmas
+mod RowTitlesLemmas
 mod TitlesLemmas
 mod UrlFaults
 mod UsableLemmas

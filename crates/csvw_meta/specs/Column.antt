@@ -21,7 +21,7 @@ column_names =
     codes "@id" ∷ codes "@type" ∷ codes "name" ∷ codes "titles" ∷ codes "suppressOutput" ∷ codes "virtual" ∷ []
 
 abbrev pub no_column : ColumnDescription
-no_column = record { name = None; titles = []; is_virtual = false; suppressed = false; inherited = no_inherited; warnings = [] }
+no_column = record { name = None; titles = []; is_virtual = false; suppressed = false; is_row_title = false; inherited = no_inherited; warnings = [] }
 
 unfoldable pub column_of : Context → ℕ → ℕ → List ℕ → Data → Read ColumnDescription
 column_of context table number at d = do
@@ -38,6 +38,7 @@ column_of context table number at d = do
     titles = titles;
     is_virtual = is_virtual;
     suppressed = suppressed;
+    is_row_title = false;
     inherited = found.inherited;
     warnings = found.warnings ++ warnings;
   })

@@ -93,6 +93,7 @@ fn column_of(reader: &ColumnReader, number: u32, part: &Part) -> Result<ColumnDe
         titles,
         is_virtual,
         suppressed,
+        is_row_title: false,
         inherited: found.inherited,
         warnings,
     })

@@ -10,6 +10,8 @@
 //!   - its dialects are lawful, and each datatype passes `Datatype::check`;
 //!   - no two declared columns of a table have one name, and no two tables have one URL;
 //!   - the columns and tables that its keys name exist.
+//! - In the profile `W3c`, the columns that the `rowTitles` of a schema name have `is_row_title`: `read_by`
+//!   (`with_row_titles`). A name that is not that of a column is `BadReference` at the name.
 //! - The annotations of the group and of its tables are those of their common properties and notes. The annotations of
 //!   other objects are checked: `read`.
 //! - A rule over several values checks those that could be read: `read`.

@@ -1,5 +1,5 @@
-//! The check that what the keys of a group's schemas name exists (Metadata Vocabulary for Tabular Data, sections 5.5.1
-//! and 5.5.2).
+//! The check that what the keys and row titles of a group's schemas name exists (Metadata Vocabulary for Tabular Data,
+//! sections 5.5, 5.5.1 and 5.5.2).
 ghost use Rattle.std.specs.Prelude.{◌≡◌, [], IfOk, MatchResult};
 ghost use Rattle.csvw_description.specs.Keys.{declared_names, own_or};
 ghost use Rattle.csvw_meta_core.specs.Reads.{Fails};
@@ -61,7 +61,7 @@ pub fn targets_of(alloc: Global, group: &GroupFound) -> Result<Seq<Target>, Allo
     Ok(Seq::of(targets))
 }
 
-/// Checks that what the keys of a schema name exists. Else the fault is `BadReference`.
+/// Checks that what the keys and row titles of a schema name exists. Else the fault is `BadReference`.
 fn check_schema(
     alloc: Global,
     targets: &[Target],
@@ -88,9 +88,9 @@ fn check_tables(alloc: Global, targets: &[Target], tables: &[TableFound]) -> Res
     Ok(())
 }
 
-/// Checks that what the keys of each schema of a group name exists: each column of a key, the table of a foreign key's
-/// URL, and as many columns on both sides. Else the fault is `BadReference` at the name, at the URL or at the foreign
-/// key.
+/// Checks that what the keys and row titles of each schema of a group name exists: each column, the table of a foreign
+/// key's URL, and as many columns on both sides. Else the fault is `BadReference` at the name, at the URL or at the
+/// foreign key.
 #[tactic(auto, using(crate::proofs::ReadLemmas::fails_first))]
 pub(crate) fn check_references(alloc: Global, group: &GroupFound) -> Result<(), Refusal>
     ensures { MatchResult result (λ _. known_faults group.now ≡ []) (λ e. Fails e (known_faults group.now)) }

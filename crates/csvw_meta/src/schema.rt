@@ -8,16 +8,16 @@ ghost use Rattle.csvw_meta_keys.specs.Described.{all_warnings, described, names_
 ghost use Rattle.csvw_meta_notes.specs.Places.{place_of};
 ghost use Rattle.csvw_meta_notes.specs.Unlisted.{unlisted};
 ghost use Rattle.csvw_meta_inherited.specs.Names.{inherited_names};
-ghost use Rattle.csvw_meta.specs.Schema.{schema_names, name_faults, order_faults, column_faults, with_keys, schema_of};
+ghost use Rattle.csvw_meta.specs.Schema.{schema_names, name_faults, order_faults, column_faults, is_row_title, with_row_title, with_row_titles};
+ghost use Rattle.csvw_meta.specs.Schema.{with_keys, schema_of};
 
 use crate::column::ColumnReader;
 use crate::repeated::repeated_at;
 use crate::virtual_order::misplaced_at;
 use csvw_description::{ColumnDescription, ForeignKey, Schema};
-use csvw_meta_core::{
-    Context, Fixed, IdReader, MetaCode, NotYet, Part, Reader, Refusal, Several, joined,
-};
+use csvw_meta_core::{Context, Fixed, IdReader, MetaCode, Part, Reader, Refusal, Several, joined};
 use csvw_meta_inherited::{InheritedFound, inheriting_warnings, read_inherited};
+use csvw_meta_keys::naming::has_name;
 use csvw_meta_keys::{KeysFound, read_keys};
 use csvw_text::{Fault, Place, Seq, Text};
 use serde_json::Value;
@@ -41,7 +41,7 @@ pub const MAX_COLUMNS: u32 = 1024;
 pub struct SchemaFound {
     /// The schema.
     pub schema: Schema,
-    /// Its keys.
+    /// Its keys and row titles.
     pub keys: KeysFound,
 }
 
@@ -196,6 +196,69 @@ fn described_keys(
     })
 }
 
+/// Returns whether the values of the column at an index are titles of their rows: they are already, or its name is among
+/// these.
+fn is_row_title(
+    alloc: Global,
+    names: &[Text],
+    column: &ColumnDescription,
+    index: usize,
+) -> Result<bool, AllocError>
+    requires { index + 1 < 2 ^ 64 }
+    ensures { IfOk result (λ b. b ≡ is_row_title names.now (index + 1) column.now) }
+{
+    let name = column_name(alloc, column, index)?;
+    Ok(column.is_row_title || has_name(names, name.as_str()))
+}
+
+fn with_row_title(
+    alloc: Global,
+    names: &[Text],
+    column: &ColumnDescription,
+    index: usize,
+) -> Result<ColumnDescription, AllocError>
+    requires { index + 1 < 2 ^ 64 }
+    ensures { IfOk result (λ c. c ≡ with_row_title names.now (index + 1) column.now) }
+{
+    let is_row_title = is_row_title(alloc, names, column, index)?;
+    let column = column.clone(alloc)?;
+    Ok(ColumnDescription {
+        is_row_title,
+        ..column
+    })
+}
+
+/// Returns copies of columns. The values of those of these names are titles of their rows.
+fn each_titled(
+    alloc: Global,
+    names: &[Text],
+    columns: &[ColumnDescription],
+) -> Result<Seq<ColumnDescription>, AllocError>
+    ensures { IfOk result (λ s. s ≡ with_row_titles names.now 0 columns.now) }
+{
+    let mut titled = Vec::new(alloc);
+    for (i, column) in columns.iter().enumerate() {
+        let column = with_row_title(alloc, names, column, i)?;
+        titled.push(column)?;
+    }
+    Ok(Seq::of(titled))
+}
+
+/// Returns the columns with the row titles that are found. Most schemas have none, and then nothing is copied.
+fn with_row_titles(
+    alloc: Global,
+    columns: Seq<ColumnDescription>,
+    keys: &KeysFound,
+) -> Result<Seq<ColumnDescription>, AllocError>
+    ensures { IfOk result (λ s. s ≡ with_row_titles (names_of keys.now.row_titles) 0 columns) }
+{
+    if keys.row_titles.is_empty() {
+        return Ok(columns);
+    }
+    let names = keys.row_titles(alloc)?;
+    each_titled(alloc, names.as_slice(), columns.as_slice())
+}
+
 /// Returns the schema of these columns and keys, with its warnings and then those on the keys. It returns `AllocError` if
 /// there is no memory.
 pub fn with_keys(
@@ -207,6 +270,7 @@ pub fn with_keys(
 ) -> Result<SchemaFound, AllocError>
     ensures { IfOk result (λ s. s ≡ with_keys columns found warnings keys) }
 {
+    let columns = with_row_titles(alloc, columns, &keys)?;
     let described = described_keys(alloc, found.warnings, warnings, &keys)?;
     let schema = Schema {
         columns,
@@ -228,7 +292,6 @@ fn schema_of(context: &Context, table: u32, part: &Part) -> Result<SchemaFound, 
         "@id",
     )?;
     part.optional(&Fixed { text: "Schema" }, "@type")?;
-    part.optional(&NotYet, "rowTitles")?;
     let warnings = schema_warnings(context, table, part)?;
     let columns = part.property(&Columns { context, table }, Seq::new(part.alloc), "columns")?;
     let found = read_inherited(context, table, 0, part)?;
@@ -237,6 +300,6 @@ fn schema_of(context: &Context, table: u32, part: &Part) -> Result<SchemaFound, 
         row: 0,
         column: 0,
     };
-    let keys = read_keys(&context.base, place, part)?;
+    let keys = read_keys(context.profile, &context.base, place, part)?;
     Ok(with_keys(part.alloc, columns, found, warnings, keys)?)
 }

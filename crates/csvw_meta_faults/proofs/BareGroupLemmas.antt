@@ -10,7 +10,7 @@ use Rattle.csvw_description.specs.declared.schema.Schema.{Schema}
 use Rattle.csvw_meta_core.specs.declared.fault.MetaFault.{MetaFault}
 use Rattle.csvw_meta_core.specs.Pointer.{below, item_at}
 use Rattle.csvw_meta_core.specs.Rules.{could_read, hides_property, is_at}
-use Rattle.csvw_meta_keys.specs.Naming.{Known, faults_to, foreign_faults, key_faults, name_faults, target_of, told_if}
+use Rattle.csvw_meta_keys.specs.Naming.{Known, faults_to, foreign_faults, key_faults, own_faults, target_of, told_if}
 use Rattle.csvw_meta_keys.specs.declared.foreign_key.ForeignKeyFound.{ForeignKeyFound}
 use Rattle.csvw_meta_keys.specs.declared.keys.KeysFound.{KeysFound}
 use Rattle.csvw_meta_keys.specs.declared.naming.Target.{Target}
@@ -101,7 +101,7 @@ bare_schema_faults : (known : Known) (ts : List Target) (s : Option Schema) (ks 
 bare_schema_faults known ts s None = refl
 bare_schema_faults known ts s (Some ks) =
     ap (λ own. key_faults known own ts (bare_keys ks)) (bare_declared s)
-    ∙ ap (λ fs. told_if known.own (name_faults known (declared_names s) ks.primary) ++ fs) (bare_each known (declared_names s) ts ks.foreign)
+    ∙ ap (λ fs. own_faults known (declared_names s) ks ++ fs) (bare_each known (declared_names s) ts ks.foreign)
 
 module _ (place : ℕ → List ℕ) (at : List ℕ) (faults : List MetaFault) (g : GroupFound) where
   bare_at : (ts : List Target) (own : List ℕ) (s : Option Schema) (ks : Option KeysFound)

@@ -14,7 +14,7 @@ use Rattle.csvw_meta.specs.declared.table.TableFound.{TableFound}
 use Rattle.csvw_meta.specs.Group.{url_faults, url_of}
 use Rattle.csvw_meta.specs.NamesRead.{hides_first, name_known}
 use Rattle.csvw_meta.specs.Repeated.{repeated}
-use Rattle.csvw_meta.specs.Schema.{column_faults}
+use Rattle.csvw_meta.specs.Schema.{column_faults, with_row_titles}
 use Rattle.csvw_meta.specs.VirtualOrder.{misplaced}
 use Rattle.csvw_meta_faults.specs.Seen.{as_table, bare_column, bare_found, bare_schema, bare_table}
 use Rattle.csvw_meta_faults.specs.declared.seen.TableSeen.{TableSeen}
@@ -28,6 +28,11 @@ use Rattle.csvw_meta.specs.declared.schema.SchemaFound.{SchemaFound}
 pub bare_names : (i : ℕ) (cs : List ColumnDescription) → numbered_names i (map bare_column cs) ≡ numbered_names i cs
 bare_names i [] = refl
 bare_names i (c ∷ cs) = ap (λ ns. name_of (i + 1) c ∷ ns) (bare_names (i + 1) cs)
+
+-- Whether the values of a column are titles of their rows is left out.
+pub bare_titled : (names : List (List ℕ)) (i : ℕ) (cs : List ColumnDescription) → map bare_column (with_row_titles names i cs) ≡ map bare_column cs
+bare_titled names i [] = refl
+bare_titled names i (c ∷ cs) = ap (λ bs. bare_column c ∷ bs) (bare_titled names (i + 1) cs)
 
 bare_first : (at : List ℕ) (i : ℕ) (cs : List ColumnDescription) (f : MetaFault) → hides_first at i (map bare_column cs) f ≡ hides_first at i cs f
 bare_first at i [] f = refl

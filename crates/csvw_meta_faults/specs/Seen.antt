@@ -14,7 +14,7 @@ use Rattle.csvw_meta_faults.specs.declared.seen.TableSeen.{TableSeen}
 
 abbrev pub bare_column : ColumnDescription → ColumnDescription
 bare_column c =
-    record { name = c.name; titles = c.titles; is_virtual = c.is_virtual; suppressed = false; inherited = no_inherited; warnings = [] }
+    record { name = c.name; titles = c.titles; is_virtual = c.is_virtual; suppressed = false; is_row_title = false; inherited = no_inherited; warnings = [] }
 
 -- ---- schemas: their columns
 

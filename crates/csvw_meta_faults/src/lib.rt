@@ -24,7 +24,7 @@
 //! - The faults of a table are listed: `find_table` (`table`).
 //! - The faults of the document's group, or of the one table that it is, are listed, with tables of equal URLs:
 //!   `find_parts` (`parts`).
-//! - The faults of the document within its context are listed, with those of what its keys name: `find_within` (`within`).
+//! - The faults of the document within its context are listed, with those of what its keys and row titles name: `find_within` (`within`).
 //!
 //! # How faults are found
 //!

@@ -1,8 +1,9 @@
-//! The faults of what the keys of schemas name (Metadata Vocabulary for Tabular Data, sections 5.5.1 and 5.5.2).
+//! The faults of what the keys and row titles of schemas name (Metadata Vocabulary for Tabular Data, sections 5.5, 5.5.1
+//! and 5.5.2).
 ghost use Rattle.std.specs.Prelude.{◌≡◌, ◌++◌, ◌∷◌, [], Bool, IfOk, List, MatchOption, None, OnOk, Some, flat_map, if◌then◌else◌, length, map, not, true, ℕ};
 ghost use Rattle.std.specs.List.{list_any};
 ghost use Rattle.csvw_meta.specs.References.{hides_side};
-ghost use Rattle.csvw_meta_keys.specs.Naming.{bad_reference, faults_to, foreign_faults, key_faults, name_fault, name_faults, referred_faults};
+ghost use Rattle.csvw_meta_keys.specs.Naming.{bad_reference, faults_to, foreign_faults, key_faults, name_fault, name_faults, own_faults, referred_faults};
 ghost use Rattle.csvw_meta_keys.specs.Naming.{side_faults, target_of, told_if};
 ghost use Rattle.csvw_meta_faults.specs.Targets.{as_target, faults_of_keys, faults_of_tables, known_in, names_known, targets_in};
 
@@ -288,6 +289,19 @@ fn find_each_foreign(
     Ok(())
 }
 
+/// Adds the faults of the names of the primary key and of the row titles that are not columns of the schema.
+fn find_in_names(
+    scene: &Scene,
+    own: OwnNames,
+    keys: &KeysFound,
+    faults: &mut Vec<MetaFault>,
+) -> Result<(), AllocError>
+    ensures { OnOk result (faults.new.items ≡ faults.old.items ++ own_faults (known_in scene.now own.entry.known) own.entry.names.now keys.now) }
+{
+    find_own_names(scene, own, keys.primary.as_slice(), faults)?;
+    find_own_names(scene, own, keys.row_titles.as_slice(), faults)
+}
+
 fn find_keys(
     scene: &Scene,
     own: OwnNames,
@@ -297,7 +311,7 @@ fn find_keys(
     ensures { OnOk result (faults.new.items ≡ faults.old.items ++ key_faults (known_in scene.now own.entry.known)
         own.entry.names.now (targets_in scene.now) keys.now) }
 {
-    find_own_names(scene, own, keys.primary.as_slice(), faults)?;
+    find_in_names(scene, own, keys, faults)?;
     find_each_foreign(scene, own, keys.foreign.as_slice(), faults)
 }
 

@@ -12,7 +12,7 @@ use crate::column::find_column;
 use crate::column_rules::column_faults;
 use crate::seen_schema::columns_here;
 use csvw_meta::schema::MAX_COLUMNS;
-use csvw_meta_core::{Context, Fixed, IdReader, MetaCode, MetaFault, NotYet, Part};
+use csvw_meta_core::{Context, Fixed, IdReader, MetaCode, MetaFault, Part};
 use csvw_meta_faults_core::{add_fault, add_wrong, find_optional, find_unlisted};
 use csvw_meta_faults_parts::{find_count, find_inherited, find_keys};
 use csvw_text::Seq;
@@ -133,11 +133,10 @@ fn find_schema_of(
     };
     find_optional(part, &id, "@id", faults)?;
     find_optional(part, &Fixed { text: "Schema" }, "@type", faults)?;
-    find_optional(part, &NotYet, "rowTitles", faults)?;
     find_unlisted(part, &context.base, faults)?;
     find_columns(context, part, faults)?;
     find_inherited(context, part, faults)?;
-    find_keys(&context.base, part, faults)
+    find_keys(context.profile, &context.base, part, faults)
 }
 
 /// Adds the faults of a schema. The URL of a schema is `NotSupported`.

@@ -56,6 +56,7 @@ fn column_of_seen(context: &Context, part: &Part) -> Result<ColumnDescription, A
         titles,
         is_virtual,
         suppressed: false,
+        is_row_title: false,
         inherited: no_inherited(),
         warnings: Seq::new(part.alloc),
     })
@@ -72,6 +73,7 @@ pub(crate) fn column_seen(context: &Context, part: &Part) -> Result<ColumnDescri
             titles: Seq::new(part.alloc),
             is_virtual: false,
             suppressed: false,
+            is_row_title: false,
             inherited: no_inherited(),
             warnings: Seq::new(part.alloc),
         }),

@@ -94,7 +94,7 @@ fn schema_of_seen(context: &Context, part: &Part) -> Result<SchemaFound, AllocEr
     ensures { (table : ℕ) → IfOk result (λ s. s ≡ bare_found (schema_of context.now table (text_of part.now.at) (view part.now.value.now)).value) }
 {
     let columns = columns_seen(context, part)?;
-    let keys = keys_seen(&context.base, part)?;
+    let keys = keys_seen(context.profile, &context.base, part)?;
     Ok(SchemaFound {
         schema: schema_with(part, columns),
         keys,
@@ -112,6 +112,7 @@ fn schema_seen(context: &Context, part: &Part) -> Result<SchemaFound, AllocError
             schema: schema_with(part, Seq::new(part.alloc)),
             keys: KeysFound {
                 primary: Seq::new(part.alloc),
+                row_titles: Seq::new(part.alloc),
                 foreign: Seq::new(part.alloc),
             },
         }),

@@ -1,4 +1,4 @@
--- What a document says of keys, without the warnings on them: `bare_keys`. The check that what they name exists needs no more.
+-- What a document says of keys and row titles, without the warnings on them: `bare_keys`. The check that what they name exists needs no more.
 use Rattle.std.specs.Prelude.{[], map}
 use Rattle.csvw_meta_keys.specs.declared.foreign_key.ForeignKeyFound.{ForeignKeyFound}
 use Rattle.csvw_meta_keys.specs.declared.keys.KeysFound.{KeysFound}
@@ -11,4 +11,4 @@ abbrev pub bare_key : ForeignKeyFound → ForeignKeyFound
 bare_key k = record { at = k.at; columns = k.columns; resource = k.resource; referenced = k.referenced; warnings = [] }
 
 abbrev pub bare_keys : KeysFound → KeysFound
-bare_keys k = record { primary = k.primary; foreign = map bare_key k.foreign }
+bare_keys k = record { primary = k.primary; row_titles = k.row_titles; foreign = map bare_key k.foreign }

@@ -1,10 +1,12 @@
-//! The faults of names of columns in keys (Metadata Vocabulary for Tabular Data, section 5.1.4).
-ghost use Rattle.csvw_meta_keys.specs.ColumnNames.{column_names, key_name};
+//! The faults of names of columns in keys and row titles (Metadata Vocabulary for Tabular Data, sections 5.1.4 and 5.5).
+ghost use Rattle.csvw_meta_keys.specs.ColumnNames.{column_names, key_name, row_titles};
 
-use csvw_meta_core::{MetaFault, NumberedReader, Part, Reader, Refusal, Several};
-use csvw_meta_faults_core::{Finder, NumberedFinder, add_wrong};
+use csvw_meta_core::{
+    MetaCode, MetaFault, NumberedReader, Part, Profile, Reader, Refusal, Several,
+};
+use csvw_meta_faults_core::{Finder, NumberedFinder, add_fault, add_wrong};
 use csvw_meta_keys::KeyName;
-use csvw_meta_keys::column_names::{ColumnNames, KeyNameReader, MAX_COLUMNS};
+use csvw_meta_keys::column_names::{ColumnNames, KeyNameReader, MAX_COLUMNS, RowTitles};
 use csvw_text::Seq;
 use serde_json::Value;
 use std::alloc::AllocError;
@@ -58,6 +60,36 @@ impl Finder for NamesFinder {
                 };
                 names.find(part, faults)
             }
+        }
+    }
+}
+
+/// The names of the columns whose values are titles of their rows (section 5.5). In the profile `Core` they are
+/// `NotSupported`.
+#[derive(Drop)]
+pub struct RowTitlesFinder {
+    /// The profile.
+    pub profile: Profile,
+}
+
+impl Reader for RowTitlesFinder {
+    type Output = Seq<KeyName>;
+
+    ghost reads = { λ r. row_titles r.profile };
+
+    fn read(&self, part: &Part) -> Result<Seq<KeyName>, Refusal> {
+        let titles = RowTitles {
+            profile: self.profile,
+        };
+        titles.read(part)
+    }
+}
+
+impl Finder for RowTitlesFinder {
+    fn find(&self, part: &Part, faults: &mut Vec<MetaFault>) -> Result<(), AllocError> {
+        match self.profile {
+            Profile::Core => add_fault(part, MetaCode::NotSupported, faults),
+            Profile::W3c => NamesFinder.find(part, faults),
         }
     }
 }

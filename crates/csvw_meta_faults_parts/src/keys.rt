@@ -1,4 +1,4 @@
-//! The faults of the keys of a schema (Metadata Vocabulary for Tabular Data, section 5.5).
+//! The faults of the keys and row titles of a schema (Metadata Vocabulary for Tabular Data, section 5.5).
 ghost use Rattle.std.specs.Prelude.{◌≡◌, ◌++◌, [], OnOk, codes};
 ghost use Rattle.serde_json.specs.View.{items_view, view};
 ghost use Rattle.csvw_fault.specs.declared.fault.Place.{Place as ThePlace};
@@ -8,11 +8,11 @@ ghost use Rattle.csvw_meta_core.specs.Several.{some_items};
 ghost use Rattle.csvw_meta_keys.specs.ForeignKeys.{foreign_key, foreign_keys};
 ghost use Rattle.csvw_meta_keys.specs.Keys.{keys};
 
-use crate::column_names::NamesFinder;
+use crate::column_names::{NamesFinder, RowTitlesFinder};
 use crate::count::find_count;
 use crate::foreign_key::find_foreign_key;
 use csvw_iri::Base;
-use csvw_meta_core::{MetaFault, Part};
+use csvw_meta_core::{MetaFault, Part, Profile};
 use csvw_meta_faults_core::{add_wrong, find_property};
 use csvw_meta_keys::keys::MAX_FOREIGN_KEYS;
 use serde_json::Value;
@@ -89,12 +89,18 @@ fn find_foreign_keys(
     }
 }
 
-/// Adds the faults of the keys of the schema that the part is.
+/// Adds the faults of the keys and row titles of the schema that the part is.
 #[tactic(auto, unfolding(csvw_meta_keys::specs::Keys::keys))]
-pub fn find_keys(base: &Base, part: &Part, faults: &mut Vec<MetaFault>) -> Result<(), AllocError>
+pub fn find_keys(
+    profile: Profile,
+    base: &Base,
+    part: &Part,
+    faults: &mut Vec<MetaFault>,
+) -> Result<(), AllocError>
     ensures { (place : ThePlace) → OnOk result (faults.new.items ≡ faults.old.items
-        ++ (keys base.now place (text_of part.now.at) (view part.now.value.now)).faults) }
+        ++ (keys profile base.now place (text_of part.now.at) (view part.now.value.now)).faults) }
 {
     find_property(part, &NamesFinder, "primaryKey", faults)?;
+    find_property(part, &RowTitlesFinder { profile }, "rowTitles", faults)?;
     find_foreign_keys(base, part, faults)
 }

@@ -1,12 +1,12 @@
-//! All faults of the datatypes, the inherited properties and the keys of a metadata document: a lower part of
-//! csvw_meta_faults (Metadata Vocabulary for Tabular Data, sections 5.5, 5.7 and 5.11).
+//! All faults of the datatypes, the inherited properties, the keys and the row titles of a metadata document: a lower part
+//! of csvw_meta_faults (Metadata Vocabulary for Tabular Data, sections 5.5, 5.7 and 5.11).
 //!
 //! # Promises
 //!
 //! - The faults of a datatype are listed, also of one whose `base` can't be read: `find_datatype` (`given_datatype`).
 //! - The faults of inherited properties are listed: `find_inherited` (`inherited`).
-//! - The faults of the keys of a schema are listed: `find_keys` (`keys`). `keys_seen` returns what the keys say, whatever
-//!   faults they have (`bare_keys`).
+//! - The faults of the keys and row titles of a schema are listed: `find_keys` (`keys`). `keys_seen` returns what they say,
+//!   whatever faults they have (`bare_keys`).
 //!
 //! Each function adds the faults of its part at the end of a list, in the order of the definition.
 #![tactic(auto)]

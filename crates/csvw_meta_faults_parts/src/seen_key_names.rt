@@ -1,13 +1,13 @@
-//! The names of columns that the keys of a document have (Metadata Vocabulary for Tabular Data, section 5.1.4), whatever
-//! faults it has.
-ghost use Rattle.std.specs.Prelude.{◌≡◌, [], IfOk};
+//! The names of columns that the keys and row titles of a document have (Metadata Vocabulary for Tabular Data, sections
+//! 5.1.4 and 5.5), whatever faults it has.
+ghost use Rattle.std.specs.Prelude.{◌≡◌, [], IfOk, codes};
 ghost use Rattle.serde_json.specs.View.{items_view, view};
 ghost use Rattle.csvw_meta_core.specs.Pointer.{item_at, text_of};
 ghost use Rattle.csvw_meta_core.specs.Read.{each_numbered, needed, property};
-ghost use Rattle.csvw_meta_keys.specs.ColumnNames.{column_names, key_name};
+ghost use Rattle.csvw_meta_keys.specs.ColumnNames.{column_names, key_name, row_titles};
 
 use crate::items::array_items;
-use csvw_meta_core::Part;
+use csvw_meta_core::{Part, Profile};
 use csvw_meta_keys::KeyName;
 use csvw_meta_keys::column_names::name_here;
 use csvw_text::Seq;
@@ -63,5 +63,15 @@ pub fn names_at(part: &Part, name: &str) -> Result<Seq<KeyName>, AllocError>
     match part.value.get(name) {
         Some(value) => names_seen(&part.member(name, value)),
         None => Ok(Seq::new(part.alloc)),
+    }
+}
+
+/// Returns the names that the property `rowTitles` has, or none if it is missing or not supported.
+pub fn row_titles_at(profile: Profile, part: &Part) -> Result<Seq<KeyName>, AllocError>
+    ensures { IfOk result (λ s. s ≡ (property (row_titles profile) [] (text_of part.now.at) (view part.now.value.now) (codes "rowTitles")).value) }
+{
+    match profile {
+        Profile::Core => Ok(Seq::new(part.alloc)),
+        Profile::W3c => names_at(part, "rowTitles"),
     }
 }

@@ -1,4 +1,5 @@
-//! What the keys of a schema say (Metadata Vocabulary for Tabular Data, section 5.5), whatever faults they have.
+//! What the keys and row titles of a schema say (Metadata Vocabulary for Tabular Data, section 5.5), whatever faults they
+//! have.
 ghost use Rattle.std.specs.Prelude.{◌≡◌, [], IfOk, codes, map};
 ghost use Rattle.serde_json.specs.View.{items_view, view};
 ghost use Rattle.csvw_fault.specs.declared.fault.Place.{Place as ThePlace};
@@ -10,10 +11,10 @@ ghost use Rattle.csvw_meta_keys.specs.References.{reference as reference_read, n
 ghost use Rattle.csvw_meta_faults_parts.specs.BareKeys.{bare_key, bare_keys, bare_reference};
 
 use crate::items::array_items;
-use crate::seen_key_names::names_at;
+use crate::seen_key_names::{names_at, row_titles_at};
 use crate::seen_reference::{no_reference, reference_seen};
 use csvw_iri::Base;
-use csvw_meta_core::Part;
+use csvw_meta_core::{Part, Profile};
 use csvw_meta_keys::reference::ReferenceFound;
 use csvw_meta_keys::{ForeignKeyFound, KeysFound};
 use csvw_text::Seq;
@@ -105,12 +106,17 @@ fn foreign_keys_seen(base: &Base, part: &Part) -> Result<Seq<ForeignKeyFound>, A
     }
 }
 
-/// Returns what the keys of the schema that the part is say, without their warnings.
+/// Returns what the keys and row titles of the schema that the part is say, without the warnings on them.
 #[tactic(auto, unfolding(csvw_meta_keys::specs::Keys::keys))]
-pub fn keys_seen(base: &Base, part: &Part) -> Result<KeysFound, AllocError>
-    ensures { (place : ThePlace) → IfOk result (λ k. k ≡ bare_keys (keys base.now place (text_of part.now.at) (view part.now.value.now)).value) }
+pub fn keys_seen(profile: Profile, base: &Base, part: &Part) -> Result<KeysFound, AllocError>
+    ensures { (place : ThePlace) → IfOk result (λ k. k ≡ bare_keys (keys profile base.now place (text_of part.now.at) (view part.now.value.now)).value) }
 {
     let primary = names_at(part, "primaryKey")?;
+    let row_titles = row_titles_at(profile, part)?;
     let foreign = foreign_keys_seen(base, part)?;
-    Ok(KeysFound { primary, foreign })
+    Ok(KeysFound {
+        primary,
+        row_titles,
+        foreign,
+    })
 }

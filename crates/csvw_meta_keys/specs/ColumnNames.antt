@@ -1,9 +1,13 @@
--- The names of columns in the keys of a document, and their faults (Metadata Vocabulary for Tabular Data, section 5.1.4).
+-- The names of columns in the keys and row titles of a document, and their faults (Metadata Vocabulary for Tabular Data, sections
+-- 5.1.4 and 5.5).
 use Rattle.std.specs.Prelude.{ℕ, List, [], ◌∷◌}
 use Rattle.serde_json.specs.Data.{Data, null, boolean, number, string, array, object}
 use Rattle.serde_json.specs.Find.{as_str}
 use Rattle.csvw_meta_core.specs.Several.{some_items}
-use Rattle.csvw_meta_core.specs.Read.{Read, fine, wrong, on_kind}
+use Rattle.csvw_meta_core.specs.Read.{Read, fine, faulty, wrong, on_kind}
+use Rattle.csvw_meta_core.specs.declared.fault.MetaCode.TheVariants.{NotSupported}
+use Rattle.csvw_meta_core.specs.declared.profile.Profile.{Profile}
+use Rattle.csvw_meta_core.specs.declared.profile.Profile.TheVariants.{Core, W3c}
 use Rattle.csvw_meta_keys.specs.declared.column_names.KeyName.{KeyName}
 use Rattle.csvw_meta_keys.specs.declared.column_names.TheConstants.{MAX_COLUMNS}
 
@@ -22,3 +26,8 @@ column_names at null = wrong at null []
 column_names at (boolean b) = wrong at (boolean b) []
 column_names at (number n) = wrong at (number n) []
 column_names at (object ms) = wrong at (object ms) []
+
+-- the columns whose values are titles of their rows; the profile Core does not support them
+abbrev pub row_titles : Profile → List ℕ → Data → Read (List KeyName)
+row_titles Core at d = faulty NotSupported at []
+row_titles W3c at d = column_names at d

@@ -1,4 +1,5 @@
--- The check that what keys name exists: `key_faults` (Metadata Vocabulary for Tabular Data, sections 5.5.1 and 5.5.2).
+-- The check that what keys and row titles name exists: `key_faults` (Metadata Vocabulary for Tabular Data, sections 5.5, 5.5.1 and
+-- 5.5.2).
 use Rattle.std.specs.Prelude.{ℕ, nat_eq, List, [], ◌∷◌, ◌++◌, Bool, true, false, bytes_eq, length, flat_map, Option, Some, None, if◌then◌else◌}
 use Rattle.std.specs.List.{list_any}
 use Rattle.csvw_meta_core.specs.declared.fault.MetaCode.TheVariants.{BadReference}
@@ -68,7 +69,11 @@ faults_to known own key (Some target) =
 abbrev pub foreign_faults : Known → List (List ℕ) → List Target → ForeignKeyFound → List MetaFault
 foreign_faults known own targets key = told_if (known.at key.resource.at) (faults_to known own key (target_of targets key.resource.url))
 
--- what is wrong with the keys of a schema with columns of these names, in a group of these tables
+-- The names of the primary key and then of the row titles that are not columns of these names.
+abbrev pub own_faults : Known → List (List ℕ) → KeysFound → List MetaFault
+own_faults known own keys = told_if known.own (name_faults known own keys.primary) ++ told_if known.own (name_faults known own keys.row_titles)
+
+-- what is wrong with the keys and row titles of a schema with columns of these names, in a group of these tables
 abbrev pub key_faults : Known → List (List ℕ) → List Target → KeysFound → List MetaFault
 key_faults known own targets keys =
-    told_if known.own (name_faults known own keys.primary) ++ flat_map (foreign_faults known own targets) keys.foreign
+    own_faults known own keys ++ flat_map (foreign_faults known own targets) keys.foreign

@@ -1,9 +1,9 @@
 //! Names of columns in keys (Metadata Vocabulary for Tabular Data, section 5.1.4: column references).
 ghost use Rattle.std.specs.Prelude.{◌≡◌, IfOk};
 ghost use Rattle.csvw_meta_core.specs.Pointer.{text_of};
-ghost use Rattle.csvw_meta_keys.specs.ColumnNames.{named_at, key_name, column_names};
+ghost use Rattle.csvw_meta_keys.specs.ColumnNames.{named_at, key_name, column_names, row_titles};
 
-use csvw_meta_core::{NumberedReader, Part, Reader, Refusal, Several};
+use csvw_meta_core::{MetaCode, NumberedReader, Part, Profile, Reader, Refusal, Several};
 use csvw_text::{Seq, Text};
 use serde_json::Value;
 use std::alloc::AllocError;
@@ -72,6 +72,27 @@ impl Reader for ColumnNames {
                 };
                 names.read(part)
             }
+        }
+    }
+}
+
+/// Reads the property `rowTitles` of a schema (section 5.5): the columns whose values are titles of their rows. In the
+/// profile `W3c` they are `ColumnNames`. In the profile `Core` the property is `NotSupported`.
+#[derive(Drop)]
+pub struct RowTitles {
+    /// The profile.
+    pub profile: Profile,
+}
+
+impl Reader for RowTitles {
+    type Output = Seq<KeyName>;
+
+    ghost reads = { λ r. row_titles r.profile };
+
+    fn read(&self, part: &Part) -> Result<Seq<KeyName>, Refusal> {
+        match self.profile {
+            Profile::Core => Err(part.refused(MetaCode::NotSupported)),
+            Profile::W3c => ColumnNames.read(part),
         }
     }
 }

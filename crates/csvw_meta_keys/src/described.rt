@@ -1,4 +1,4 @@
-//! The keys of a schema, as a description has them.
+//! The keys and row titles of a schema, as a description has them.
 ghost use Rattle.std.specs.Prelude.{◌≡◌, IfOk, map};
 ghost use Rattle.csvw_meta_keys.specs.Described.{all_warnings, described, names_of};
 
@@ -57,6 +57,13 @@ impl KeysFound {
         ensures { IfOk result (λ s. s ≡ names_of self.now.primary) }
     {
         names_of(alloc, self.primary.as_slice())
+    }
+
+    /// Returns the names of the columns whose values are titles of their rows, or `AllocError` if there is no memory.
+    pub fn row_titles(&self, alloc: Global) -> Result<Seq<Text>, AllocError>
+        ensures { IfOk result (λ s. s ≡ names_of self.now.row_titles) }
+    {
+        names_of(alloc, self.row_titles.as_slice())
     }
 
     /// Returns the foreign keys in order, or `AllocError` if there is no memory.

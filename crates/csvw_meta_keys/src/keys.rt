@@ -1,45 +1,60 @@
-//! The keys of a schema (Metadata Vocabulary for Tabular Data, section 5.5, `primaryKey` and `foreignKeys`).
+//! The keys and row titles of a schema (Metadata Vocabulary for Tabular Data, section 5.5: `primaryKey`, `rowTitles` and
+//! `foreignKeys`).
 ghost use Rattle.std.specs.Prelude.{◌≡◌};
 ghost use Rattle.serde_json.specs.View.{view};
 ghost use Rattle.csvw_meta_core.specs.Pointer.{text_of};
 ghost use Rattle.csvw_meta_core.specs.Reads.{Reads};
 ghost use Rattle.csvw_meta_keys.specs.Keys.{keys};
 
-use crate::column_names::{ColumnNames, KeyName};
+use crate::column_names::{ColumnNames, KeyName, RowTitles};
 use crate::foreign_key::{ForeignKeyFound, ForeignKeyReader};
 use csvw_iri::Base;
-use csvw_meta_core::{Part, Refusal, Several};
+use csvw_meta_core::{Part, Profile, Refusal, Several};
 use csvw_text::{Place, Seq};
 
 /// The greatest number of foreign keys of a schema.
 pub const MAX_FOREIGN_KEYS: u32 = 64;
 
-/// The keys of a schema, as a document describes them.
+/// The keys and row titles of a schema, as a document describes them.
 #[derive(Debug, Drop)]
 pub struct KeysFound {
     /// The names of the columns of its primary key, at most 16. If there are none, the schema has no primary key.
     pub primary: Seq<KeyName>,
+    /// The names of the columns whose values are titles of their rows (`rowTitles`), at most 16. If there are none, no
+    /// column has titles of rows.
+    pub row_titles: Seq<KeyName>,
     /// Its foreign keys in order, at most 64.
     pub foreign: Seq<ForeignKeyFound>,
 }
 
-/// Reads the keys of the schema that the part is. URLs are resolved against the base, and warnings have the given
-/// place. It returns the keys, a fault of a key, or `Memory`. The faults are:
+/// Reads the keys and row titles of the schema that the part is. URLs are resolved against the base, and warnings have
+/// the given place. It returns them, a fault of one of them, or `Memory`. The faults are:
 ///
-/// - `BadProperty`: a value is of a wrong kind, a property is missing, a key has an empty array of columns, or a
-///   foreign key has a common property.
-/// - `TooMany`: a key has over 16 columns, or the schema has over 64 foreign keys.
+/// - `BadProperty`: a value is of a wrong kind, a property is missing, an array of columns is empty, or a foreign key
+///   has a common property.
+/// - `TooMany`: a key or the row titles have over 16 columns, or the schema has over 64 foreign keys.
 /// - `BadUrl` or `UrlTooLong`: the `resource` of a foreign key resolves to no URL.
-/// - `NotSupported`: a foreign key refers to a schema, or a value is a number that is not whole.
-pub fn read_keys(base: &Base, place: Place, part: &Part) -> Result<KeysFound, Refusal>
-    ensures { Reads result (keys base.now place (text_of part.now.at) (view part.now.value.now)) }
+/// - `NotSupported`: a foreign key refers to a schema, a value is a number that is not whole, or the schema has row titles
+///   in the profile `Core`.
+pub fn read_keys(
+    profile: Profile,
+    base: &Base,
+    place: Place,
+    part: &Part,
+) -> Result<KeysFound, Refusal>
+    ensures { Reads result (keys profile base.now place (text_of part.now.at) (view part.now.value.now)) }
 {
     let primary = part.property(&ColumnNames, Seq::new(part.alloc), "primaryKey")?;
+    let row_titles = part.property(&RowTitles { profile }, Seq::new(part.alloc), "rowTitles")?;
     let foreign_keys = Several {
         reader: ForeignKeyReader { base, place },
         least: 0,
         most: MAX_FOREIGN_KEYS,
     };
     let foreign = part.property(&foreign_keys, Seq::new(part.alloc), "foreignKeys")?;
-    Ok(KeysFound { primary, foreign })
+    Ok(KeysFound {
+        primary,
+        row_titles,
+        foreign,
+    })
 }

@@ -1,15 +1,15 @@
-//! The primary and foreign keys of a schema in a metadata document: a lower part of csvw_meta (Metadata Vocabulary for
-//! Tabular Data, sections 5.5.1 and 5.5.2).
+//! The primary and foreign keys of a schema in a metadata document, and its row titles: a lower part of csvw_meta
+//! (Metadata Vocabulary for Tabular Data, sections 5.5, 5.5.1 and 5.5.2).
 //!
 //! # Promises
 //!
-//! - The keys of a schema are read, each name and URL with its pointer, or reported as a fault in them: `read_keys`
-//!   (`keys`). The faults are `BadProperty`, `TooMany` (over 16 columns or 64 foreign keys), `BadUrl`, `UrlTooLong` and
-//!   `NotSupported`.
-//! - `check_keys` (`key_faults`) checks that each column and table that the keys name exists, and that both sides are
-//!   equally long. Else it returns `BadReference` at the name, the URL or the foreign key.
-//! - `primary_key`, `foreign_keys` and `warnings` return the keys and the warnings (`names_of`, `described`,
-//!   `all_warnings`).
+//! - The keys and row titles of a schema are read, each name and URL with its pointer, or reported as a fault in them:
+//!   `read_keys` (`keys`). The faults are `BadProperty`, `TooMany` (over 16 columns or 64 foreign keys), `BadUrl`,
+//!   `UrlTooLong` and `NotSupported`. In the profile `Core` row titles are `NotSupported`.
+//! - `check_keys` (`key_faults`) checks that each column and table that the keys and row titles name exists, and that
+//!   both sides of a foreign key are equally long. Else it returns `BadReference` at the name, the URL or the foreign key.
+//! - `primary_key`, `row_titles`, `foreign_keys` and `warnings` return the keys, the row titles and the warnings
+//!   (`names_of`, `described`, `all_warnings`).
 //!
 //! The public modules have the parts of keys, for crates that list all faults of a document.
 #![tactic(auto)]

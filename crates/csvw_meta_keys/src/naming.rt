@@ -1,8 +1,8 @@
-//! The check that what keys name exists: columns of their own table, and other tables of the group with their columns
-//! (Metadata Vocabulary for Tabular Data, sections 5.5.1 and 5.5.2).
+//! The check that what keys and row titles name exists: columns of their own table, and other tables of the group with
+//! their columns (Metadata Vocabulary for Tabular Data, sections 5.5, 5.5.1 and 5.5.2).
 ghost use Rattle.std.specs.Prelude.{◌≡◌, ◌∷◌, [], MatchOption, MatchResult, None, Some, flat_map};
 ghost use Rattle.csvw_meta_core.specs.Reads.{Fails};
-ghost use Rattle.csvw_meta_keys.specs.Naming.{all_known, bad_reference, foreign_faults, has_name, key_faults, name_faults, side_faults, faults_to, target_of};
+ghost use Rattle.csvw_meta_keys.specs.Naming.{all_known, bad_reference, foreign_faults, has_name, key_faults, name_faults, own_faults, side_faults, faults_to, target_of};
 
 use crate::column_names::KeyName;
 use crate::foreign_key::ForeignKeyFound;
@@ -121,8 +121,18 @@ fn check_each(
     Ok(())
 }
 
-/// Checks that what the keys of a schema name exists among the tables of its group. `own` has the names of the
-/// schema's columns. A missing name is `BadReference` at the name, and a missing table is `BadReference` at the URL.
+/// Checks that the primary key and the row titles of a schema name columns of it. Else the fault is `BadReference` at the
+/// name.
+#[tactic(auto, using(crate::proofs::ReadLemmas::fails_first))]
+fn check_own(alloc: Global, own: &[Text], keys: &KeysFound) -> Result<(), Refusal>
+    ensures { MatchResult result (λ _. own_faults all_known own.now keys.now ≡ []) (λ e. Fails e (own_faults all_known own.now keys.now)) }
+{
+    check_names(alloc, own, keys.primary.as_slice())?;
+    check_names(alloc, own, keys.row_titles.as_slice())
+}
+
+/// Checks that what the keys and row titles of a schema name exists among the tables of its group. `own` has the names of
+/// the schema's columns. A missing name is `BadReference` at the name, and a missing table is `BadReference` at the URL.
 /// If the two sides of a foreign key have different numbers of columns, the fault is `BadReference` at the key. It
 /// returns `Memory` if there is no memory for the fault.
 #[tactic(auto, using(crate::proofs::ReadLemmas::fails_first))]
@@ -135,6 +145,6 @@ pub fn check_keys(
     ensures { MatchResult result (λ _. key_faults all_known own.now targets.now keys.now ≡ [])
         (λ e. Fails e (key_faults all_known own.now targets.now keys.now)) }
 {
-    check_names(alloc, own, keys.primary.as_slice())?;
+    check_own(alloc, own, keys)?;
     check_each(alloc, own, targets, keys.foreign.as_slice())
 }

@@ -1,7 +1,7 @@
 -- What is ignored in a document is reported only as warnings.
-use Rattle.std.proofs.Common.{◌≡◌, ℕ, List, [], ◌∷◌, ◌++◌, Bool, true, false, Option, Some, None, refl, subst, codes, if◌then◌else◌, IfSome, All, map}
+use Rattle.std.proofs.Common.{◌≡◌, ℕ, ◌+◌, List, [], ◌∷◌, ◌++◌, Bool, true, false, Option, Some, None, refl, subst, codes, if◌then◌else◌, IfSome, All, map}
 use Rattle.std.proofs.Common.{flat_map, is_some}
-use Rattle.std.proofs.lemmas.List.Elements.{All-cons, All-map, All-nil}
+use Rattle.std.proofs.lemmas.List.Elements.{All-cons, All-head, All-map, All-nil, All-tail}
 use Rattle.serde_json.specs.Data.{Data}
 use Rattle.serde_json.specs.Data as json
 use Rattle.serde_json.specs.Find.{get}
@@ -39,7 +39,7 @@ use Rattle.csvw_meta.specs.Column.{column_names}
 use Rattle.csvw_meta.specs.Group.{group_names}
 use Rattle.csvw_meta.specs.Schema.{schema_names}
 use Rattle.csvw_meta.specs.Table.{sole_table_names, table_names}
-use Rattle.csvw_meta.specs.Schema.{columns, no_schema, schema, schema_of}
+use Rattle.csvw_meta.specs.Schema.{columns, no_schema, schema, schema_of, with_row_title, with_row_titles}
 use Rattle.csvw_meta_core.specs.Several.{several}
 use Rattle.csvw_meta.specs.Table.{no_table, table, table_of, table_others}
 use Rattle.csvw_meta.specs.UrlAlone.{own_base, plain_document}
@@ -117,6 +117,13 @@ column_quiet context table number at d =
 columns_quiet : (context : Context) (table : ℕ) (at : List ℕ) (d : Data) → All IsQuietColumn (columns context table at d).value
 columns_quiet context table at d = several_value IsQuietColumn 0 1024 (column context table) (column_quiet context table) at d
 
+-- The warnings on a column stay the same, whether its values are titles of their rows or not.
+titled_quiet : (names : List (List ℕ)) (i : ℕ) (cs : List ColumnDescription) → All IsQuietColumn cs → All IsQuietColumn (with_row_titles names i cs)
+titled_quiet names i [] q = q
+titled_quiet names i (c ∷ cs) q =
+    All-cons IsQuietColumn (with_row_title names (i + 1) c) (with_row_titles names (i + 1) cs) (All-head IsQuietColumn c cs q)
+    (titled_quiet names (i + 1) cs (All-tail IsQuietColumn c cs q))
+
 abbrev IsQuietSchema : SchemaFound → Type 0
 IsQuietSchema found = Quiet (in_schema (Some found.schema))
 
@@ -128,14 +135,18 @@ schema_of_quiet context table at d =
     let ignored = (unlisted context.base context.language names place at d).value in
     let found = (inherited context table 0 at d).value in
     let own = found.warnings ++ ignored in
-    let of_keys = described_keys.all_warnings (keys context.base place at d).value.foreign in
-    let cs = (property (columns context table) [] at d (codes "columns")).value in
+    let ks = (keys context.profile context.base place at d).value in
+    let of_keys = described_keys.all_warnings ks.foreign in
+    let read = (property (columns context table) [] at d (codes "columns")).value in
+    let titles = described_keys.names_of ks.row_titles in
+    let cs = with_row_titles titles 0 read in
     quiet_join (own ++ of_keys) (flat_map (λ (c : ColumnDescription). c.warnings) cs)
     (quiet_join own of_keys
     (quiet_join found.warnings ignored (inherited_quiet context table 0 at d) (unlisted_quiet context.base context.language names place at d))
-    (keys_quiet context.base place at d))
+    (keys_quiet context.profile context.base place at d))
     (quiet_flat (λ (c : ColumnDescription). c.warnings) cs
-    (property_value (All IsQuietColumn) (columns context table) (columns_quiet context table) [] (All-nil IsQuietColumn) at d (codes "columns")))
+    (titled_quiet titles 0 read
+    (property_value (All IsQuietColumn) (columns context table) (columns_quiet context table) [] (All-nil IsQuietColumn) at d (codes "columns"))))
 
 schema_quiet : (context : Context) (table : ℕ) (at : List ℕ) (d : Data) → IsQuietSchema (schema context table at d).value
 schema_quiet context table at d = linked_value IsQuietSchema at d no_schema (schema_of context table at d) refl (schema_of_quiet context table at d)

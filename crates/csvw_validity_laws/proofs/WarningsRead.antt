@@ -308,8 +308,9 @@ foreign_keys_quiet base place at (number n) = All-nil IsQuietKey
 foreign_keys_quiet base place at (string s) = All-nil IsQuietKey
 foreign_keys_quiet base place at (object ms) = All-nil IsQuietKey
 
-pub keys_quiet : (base : Parts) (place : Place) (at : List ℕ) (d : Data) → Quiet (described.all_warnings (keys base place at d).value.foreign)
+pub keys_quiet : (profile : Profile) (base : Parts) (place : Place) (at : List ℕ) (d : Data)
+    → Quiet (described.all_warnings (keys profile base place at d).value.foreign)
 unfolding keys
-keys_quiet base place at d =
+keys_quiet profile base place at d =
     quiet_flat (λ (k : ForeignKeyFound). k.warnings) (property (foreign_keys base place) [] at d (codes "foreignKeys")).value
     (property_value (All IsQuietKey) (foreign_keys base place) (foreign_keys_quiet base place) [] (All-nil IsQuietKey) at d (codes "foreignKeys"))

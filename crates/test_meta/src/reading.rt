@@ -36,7 +36,11 @@ fn count(described: &Description) -> usize {
 }
 
 /// Returns the document with a part between two texts.
-fn document(alloc: Global, frame: (&str, &str), part: &str) -> Result<String, AllocError> {
+pub(crate) fn document(
+    alloc: Global,
+    frame: (&str, &str),
+    part: &str,
+) -> Result<String, AllocError> {
     let (front, end) = frame;
     format!(in alloc; "{front}{part}{end}")
 }
@@ -70,7 +74,7 @@ fn accepts(alloc: Global, frame: (&str, &str), line: &str) -> Result<bool, Alloc
 }
 
 /// Whether a fault is that of a line: a code, and a pointer that follows `at`.
-fn is_fault(
+pub(crate) fn is_fault(
     alloc: Global,
     at: &str,
     fault: &MetaFault,

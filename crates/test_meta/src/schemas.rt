@@ -27,6 +27,7 @@ const REFUSED: &str = r#""columns":1 => BadProperty /columns
 "@type":"Table" => BadProperty /@type
 "rowTitles":"a" => NotSupported /rowTitles
 "rowTitles":1 => NotSupported /rowTitles
+"rowTitles":[] => NotSupported /rowTitles
 "dc:x":1.5 => NotSupported /dc:x
 "1:x":1 => BadProperty /1:x
 "dc:x":{"@list":[]} => NotSupported /dc:x/@list

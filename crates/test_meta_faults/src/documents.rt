@@ -50,6 +50,14 @@ const REFERENCES: &str =
 {C,"tables":[{"url":1},{"url":"b","tableSchema":{"columns":[{"name":"x"}],"foreignKeys":[{"columnReference":"x","reference":{"resource":"c","columnReference":"z"}},{"columnReference":"p","reference":{"resource":"b","columnReference":["q","x"]}}]}}]} => BadProperty /tables/0/url; BadReference /tables/1/tableSchema/foreignKeys/1/columnReference; BadReference /tables/1/tableSchema/foreignKeys/1
 "#;
 
+/// Documents whose row titles have faults, or name what does not exist.
+const ROW_TITLES: &str =
+    r#"{C,"url":"a","tableSchema":{"columns":[{"name":"x"}],"rowTitles":["p",1],"primaryKey":"q"}} => NotSupported /tableSchema/rowTitles; BadReference /tableSchema/primaryKey
+{W,"url":"a","tableSchema":{"columns":[{"name":"x"}],"rowTitles":"x"}} => none
+{W,"url":"a","tableSchema":{"columns":[{"name":1}],"rowTitles":"x"}} => BadProperty /tableSchema/columns/0/name
+{W,"url":"a","tableSchema":{"rowTitles":["x",1,"p"],"foreignKeys":[{"columnReference":"r","reference":{"resource":"a","columnReference":"x"}}],"primaryKey":["q",2],"columns":[{"name":"x"}]}} => BadProperty /tableSchema/primaryKey/1; BadProperty /tableSchema/rowTitles/1; BadReference /tableSchema/primaryKey/0; BadReference /tableSchema/rowTitles/2; BadReference /tableSchema/foreignKeys/0/columnReference
+"#;
+
 #[test]
 fn whole(rt: HostRuntime) -> Result<(), Fail> {
     assert_eq!(rt; first_wrong(rt.alloc(), Kind::Document, WHOLE)?, None);
@@ -77,6 +85,12 @@ fn together(rt: HostRuntime) -> Result<(), Fail> {
 #[test]
 fn references(rt: HostRuntime) -> Result<(), Fail> {
     assert_eq!(rt; first_wrong(rt.alloc(), Kind::Document, REFERENCES)?, None);
+    Ok(())
+}
+
+#[test]
+fn row_titles(rt: HostRuntime) -> Result<(), Fail> {
+    assert_eq!(rt; first_wrong(rt.alloc(), Kind::Document, ROW_TITLES)?, None);
     Ok(())
 }
 

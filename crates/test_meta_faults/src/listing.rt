@@ -94,17 +94,23 @@ fn faults(alloc: Global, kind: Kind, document: &str) -> Result<Option<String>, A
     Ok(Some(written(alloc, found.as_slice())?))
 }
 
-/// Returns the faults of a whole document. A document that begins with `{C` has the context of the vocabulary.
+/// Returns the faults of a whole document. A document that begins with `{C` or `{W` has the context of the vocabulary. One
+/// that begins with `{W` is in the profile w3c, and each other one in core.
 fn document_faults(alloc: Global, document: &str) -> Result<Option<String>, AllocError> {
     let mut text = String::new(alloc);
-    match document.strip_prefix("{C") {
+    let in_w3c = document.strip_prefix("{W");
+    let profile = match in_w3c {
+        Some(_) => Profile::W3c,
+        None => Profile::Core,
+    };
+    match document.strip_prefix("{C").or(in_w3c) {
         Some(rest) => {
             text.push_str("{\"@context\":\"http://www.w3.org/ns/csvw\"")?;
             text.push_str(rest)?;
         }
         None => text.push_str(document)?,
     }
-    let found = faults_in(alloc, text.as_bytes(), URL, Profile::Core)?;
+    let found = faults_in(alloc, text.as_bytes(), URL, profile)?;
     Ok(Some(written(alloc, found.as_slice())?))
 }
 

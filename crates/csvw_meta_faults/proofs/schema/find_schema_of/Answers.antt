@@ -15,7 +15,6 @@ returns c = λ table.
       (c.in_ok-find_inherited.ensures table 0),
       (c.in_ok-find_columns.ensures table),
       (c.in_ok-find_unlisted.ensures c.args.context.now.language (schema_names ++ inherited_names) (place_of table 0)),
-      c.in_ok-find_optional-3.ensures,
       c.in_ok-find_optional-2.ensures,
       c.in_ok-find_optional.ensures,
     ) at (c.find_keys.ensures (place_of table 0))))
