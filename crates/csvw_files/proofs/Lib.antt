@@ -1,1 +1,3 @@
 mod Documents
+mod FileLemmas
+mod ResourceLemmas

@@ -1,1 +1,3 @@
 pub mod Documents
+pub mod Files
+pub mod ResourceFiles

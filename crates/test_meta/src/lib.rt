@@ -4,6 +4,8 @@
 #[cfg(test)]
 mod annotations;
 #[cfg(test)]
+mod bundles;
+#[cfg(test)]
 mod columns;
 #[cfg(test)]
 mod contexts;
@@ -19,6 +21,8 @@ mod limits;
 mod named;
 #[cfg(test)]
 mod reading;
+#[cfg(test)]
+mod row_titles;
 #[cfg(test)]
 mod schemas;
 #[cfg(test)]

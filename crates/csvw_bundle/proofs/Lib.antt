@@ -1,0 +1,6 @@
+mod AbsoluteLemmas
+mod BytesLemmas
+mod ItemsLemmas
+mod MembersLemmas
+mod ObjectLemmas
+mod ReadLemmas

@@ -1,0 +1,4 @@
+pub mod Absolute
+pub mod Bundles
+pub mod Members
+pub mod Resources
