@@ -33,17 +33,26 @@ def named_beside(document):
     return [it for it in beside if os.fsencode(it.name) in text or quote(it.name).encode() in text]
 
 
+def split_resource(words, number):
+    """The front of a word that isn't a path, as `URL=` of a resource, and the path."""
+    word = words[number]
+    is_resource = word.startswith("--resource=") or number > 0 and words[number - 1] == "--resource"
+    front, sign, path = word.rpartition("=") if is_resource else ("", "", word)
+    return front + sign, path
+
+
 def as_data(words):
     """The words for the program, and the flags that lend it the files that they name."""
     given, lent = [], {}
-    for number, word in enumerate(words):
+    for number in range(len(words)):
+        front, word = split_resource(words, number)
         if word != "-" and Path(word).is_file():
             name = lent_name(word, number)
             if words[0] == "check" and not lent:
                 lent.update({str(Path(name).parent / it.name): it for it in named_beside(word)})
             lent[name] = Path(word).resolve()
             word = name
-        given.append(word)
+        given.append(front + word)
     return given, [flag for name, path in lent.items() for flag in ("--data", f"{name}={path}")]
 
 

@@ -32,8 +32,10 @@
 //! - `run`, `run_turns` and `plain`: csvw_engine says what they leave in `out` and `report`, for each result.
 //! - `Session`: csvw_session says what its sink takes at each call; csvw_group_laws says what that is when all tables are ended.
 //! - `Description::read`, `Description::read_by` and `Plan::build`: csvw_meta and csvw_columns say when they fail.
+//! - `bundle`: csvw_bundle says which document it returns, whose schemas and dialects are files of their own.
 #![tactic(auto)]
 
+pub use csvw_bundle::{Resource, bundle};
 pub use csvw_columns::Plan;
 pub use csvw_engine::{Order, Request, Way, plain, run, run_by, run_turns, write_report};
 pub use csvw_meta::{Description, MetaCode, MetaFault, Profile, ReadDescription};

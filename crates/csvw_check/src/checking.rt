@@ -6,14 +6,15 @@ use crate::faults::faults_of;
 use crate::reading::{Found, read};
 use crate::repeats::{most_of, repeats_of};
 use csvw_check_core::{
-    Alone, Check, DEVICE, Halt, REFUSED, Refused, Report, Stopped, Tables, Walker, opened, paths,
-    plan_of, show_alone, status_of, status_of_stop,
+    Alone, Check, DEVICE, Document, Halt, Opened, REFUSED, Refused, Report, Stopped, Tables,
+    Walker, open_document, paths, plan_of, show_alone, status_of, status_of_stop,
 };
 use csvw_columns::Plan;
 use csvw_files::Opener;
 use csvw_streams::{Counted, write_out};
 use std::alloc::Global;
 use std::io::Write;
+use std::slice;
 
 /// Checks a group of tables, and writes what is wrong with it to `out`. Returns the status.
 pub fn check<O: Opener, W: Write, V: Write>(
@@ -48,30 +49,39 @@ fn checked_group<O: Opener, W: Write>(
     walker: &mut Walker,
     out: &mut Counted<W>,
 ) -> Result<u8, Halt> {
-    match opened(walker.page.alloc, asked.meta, opener) {
-        Some(bytes) => check_document((asked, bytes.as_slice()), opener, walker, out),
-        None => {
-            let reason = Alone::Unread(opener.io_error(asked.meta));
-            show_alone(&mut walker.page, &asked.group(), &reason, out)?;
+    match open_document(walker.page.alloc, &asked.source(), opener)? {
+        Opened::Document(document) => check_document((asked, &document), opener, walker, out),
+        Opened::Unread(file) => {
+            show_alone(&mut walker.page, &asked.group(), &Alone::Unread(file), out)?;
             Ok(DEVICE)
+        }
+        Opened::Refused(own, fault) => {
+            let refused = Refused {
+                bytes: own.as_slice(),
+                fault: &fault,
+                faults: slice::from_ref(&fault),
+                shown: asked.shown,
+            };
+            refuse(asked, &Alone::Refused(&refused), walker, out)
         }
     }
 }
 
 /// Plans the tables of the document, and checks them. Returns the status.
 fn check_document<O: Opener, W: Write>(
-    source: (&Check<'_>, &[u8]),
+    source: (&Check<'_>, &Document),
     opener: &mut O,
     walker: &mut Walker,
     out: &mut Counted<W>,
 ) -> Result<u8, Halt> {
     let (asked, document) = source;
-    match plan_of(walker.page.alloc, document, asked.base, asked.profile) {
-        Ok(plan) => check_plan(source, &plan, opener, walker, out),
+    let bytes = document.bytes();
+    match plan_of(walker.page.alloc, bytes, asked.base, asked.profile) {
+        Ok(plan) => check_plan((asked, document.own.as_slice()), &plan, opener, walker, out),
         Err(fault) => {
-            let faults = faults_of(walker.page.alloc, document, asked.base, asked.profile);
+            let faults = faults_of(walker.page.alloc, bytes, asked.base, asked.profile);
             let refused = Refused {
-                bytes: document,
+                bytes: document.own.as_slice(),
                 fault: &fault,
                 faults: faults.as_slice(),
                 shown: asked.shown,

@@ -3,7 +3,7 @@
 use crate::showing::explain_stop;
 use csvw_check_core::{
     Form, Group, Halt, Page, Show, ShowTable, Stopped, Tables, UnreadFile, end_page, tell_memory,
-    tell_plain, tell_stop, tell_unread, tell_unread_document,
+    tell_plain, tell_stop, tell_unread, unread_file,
 };
 use csvw_columns::Plan;
 use csvw_engine_core::Stop;
@@ -112,12 +112,15 @@ pub fn explain_table_stop<O: Opener, W: Write>(
 /// Adds that a device failed while a document was shown, or that memory ran out.
 fn tell_look_stop<O: Opener>(
     page: &mut Page,
-    meta: &str,
+    asked: &Show<'_>,
     stop: &Stop,
-    opener: &O,
+    opener: &mut O,
 ) -> Result<(), AllocError> {
     match stop {
-        Stop::Read => tell_unread_document(page, meta, opener.io_error(meta)),
+        Stop::Read => {
+            let file = unread_file(page.alloc, &asked.source(), opener);
+            tell_unread(page, &file)
+        }
         Stop::Write => tell_plain(page, "Write", UNWRITTEN, "", 0),
         _ => tell_memory(page),
     }
@@ -137,7 +140,7 @@ pub fn explain_look_stop<O: Opener, W: Write>(
         Some(stop) => {
             let mut page = Page::new(alloc, asked.form, asked.color);
             page.begin(asked.meta, None)?;
-            tell_look_stop(&mut page, asked.meta, stop, opener)?;
+            tell_look_stop(&mut page, asked, stop, opener)?;
             end_page(&mut page, None, out)
         }
     }

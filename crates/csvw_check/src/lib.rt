@@ -25,7 +25,9 @@ mod showing;
 mod sink;
 
 pub use checking::check;
-pub use csvw_check_core::{Check, Color, Form, Halt, Profile, Show, ShowTable, Shown, Strict};
+pub use csvw_check_core::{
+    Check, Color, Form, Halt, Profile, ResourceFile, Show, ShowTable, Shown, Strict,
+};
 pub use csvw_engine_core::Stop;
 pub use explaining::{explain_look_stop, explain_table_stop};
 pub use showing::{explain_stop, show};

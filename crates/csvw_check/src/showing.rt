@@ -4,8 +4,9 @@ ghost use Rattle.csvw_columns.specs.Ready.{AreReady};
 use crate::faults::faults_of;
 use crate::repeats::{most_of, repeats_of};
 use csvw_check_core::{
-    Alone, Halt, Page, Refused, Report, Show, Stopped, Strict, Tables, Walker, end_page, opened,
-    plan_of, show_alone, status_of, status_of_stop, tell_stop,
+    Alone, Document, Halt, Opened, Page, Refused, Report, Show, Stopped, Strict, Tables, Walker,
+    end_page, open_document, plan_of, show_alone, status_of, status_of_stop, tell_stop,
+    unread_file,
 };
 use csvw_columns::Plan;
 use csvw_engine_core::Stop;
@@ -14,6 +15,7 @@ use csvw_reread::paths_in_order;
 use csvw_streams::Counted;
 use std::alloc::Global;
 use std::io::Write;
+use std::slice;
 
 /// What is shown of a run.
 #[derive(Clone, Copy)]
@@ -31,8 +33,8 @@ struct Run<'a> {
     asked: &'a Show<'a>,
     /// What is shown.
     part: Part<'a>,
-    /// The bytes of the document.
-    document: &'a [u8],
+    /// The document.
+    document: &'a Document,
 }
 
 /// Shows the report of a run, and its stop if it stopped. The document and the files are read again, so none of them
@@ -73,28 +75,52 @@ fn show_part<O: Opener, W: Write>(
 ) -> Result<(), Halt> {
     let (asked, part) = run;
     let mut walker = Walker::new(alloc, asked.form, asked.color, asked.shown);
-    match opened(alloc, asked.meta, opener) {
-        Some(bytes) => {
+    match open_document(alloc, &asked.source(), opener)? {
+        Opened::Document(document) => {
             let run = Run {
                 asked,
                 part,
-                document: bytes.as_slice(),
+                document: &document,
             };
             show_document(&run, &mut walker, opener, out)
         }
-        None => {
-            let reason = unread(asked, opener);
+        Opened::Unread(_) => {
+            let reason = unread(alloc, asked, opener);
             show_alone(&mut walker.page, &asked.group(), &reason, out)
+        }
+        Opened::Refused(own, fault) => {
+            let refused = Refused {
+                bytes: own.as_slice(),
+                fault: &fault,
+                faults: slice::from_ref(&fault),
+                shown: asked.shown,
+            };
+            refuse(asked, &refused, &mut walker, out)
         }
     }
 }
 
-/// Returns what is told if the document can't be read again. The run may have read it and refused it.
-fn unread<'a, O: Opener>(asked: &Show<'a>, opener: &O) -> Alone<'a> {
+/// Returns what is told if the document or a resource can't be read again. The run may have read it and refused it.
+fn unread<'a, O: Opener>(alloc: Global, asked: &Show<'a>, opener: &mut O) -> Alone<'a> {
     match asked.stop {
         Some(Stop::Meta(fault)) => Alone::Unseen(fault),
-        _ => Alone::Unread(opener.io_error(asked.meta)),
+        _ => Alone::Unread(unread_file(alloc, &asked.source(), opener)),
     }
+}
+
+/// Shows a document that is refused.
+fn refuse<W: Write>(
+    asked: &Show<'_>,
+    refused: &Refused<'_>,
+    walker: &mut Walker,
+    out: &mut Counted<W>,
+) -> Result<(), Halt> {
+    show_alone(
+        &mut walker.page,
+        &asked.group(),
+        &Alone::Refused(refused),
+        out,
+    )
 }
 
 /// Plans the tables of the document, and shows a part of the run, or why there is no plan.
@@ -109,22 +135,18 @@ fn show_document<O: Opener, W: Write>(
         document,
         ..
     } = *run;
-    match plan_of(walker.page.alloc, document, asked.base, asked.profile) {
+    let bytes = document.bytes();
+    match plan_of(walker.page.alloc, bytes, asked.base, asked.profile) {
         Ok(plan) => show_planned(run, &plan, walker, opener, out),
         Err(fault) => {
-            let faults = faults_of(walker.page.alloc, document, asked.base, asked.profile);
+            let faults = faults_of(walker.page.alloc, bytes, asked.base, asked.profile);
             let refused = Refused {
-                bytes: document,
+                bytes: document.own.as_slice(),
                 fault: &fault,
                 faults: faults.as_slice(),
                 shown: asked.shown,
             };
-            show_alone(
-                &mut walker.page,
-                &asked.group(),
-                &Alone::Refused(&refused),
-                out,
-            )
+            refuse(asked, &refused, walker, out)
         }
     }
 }
@@ -151,7 +173,7 @@ fn show_planned<O: Opener, W: Write>(
     let paths = paths_in_order(walker.page.alloc, asked.meta, asked.files, plan.tables())?;
     let tables = Tables {
         group,
-        document,
+        document: document.own.as_slice(),
         plan,
         paths: paths.as_slice(),
     };

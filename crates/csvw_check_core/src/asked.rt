@@ -1,6 +1,8 @@
 //! What is asked of a check, and of the showing of a report.
 
+use crate::source::Source;
 use csvw_engine_core::Stop;
+use csvw_files::ResourceFile;
 use csvw_hints::Group;
 use csvw_meta::Profile;
 use csvw_page::{Color, Form};
@@ -25,6 +27,8 @@ pub struct Check<'a> {
     pub meta: &'a str,
     /// The paths of the tables' files. If there are none, the files are found beside the document.
     pub files: &'a [&'a str],
+    /// The files of the schemas and dialects that the document names by their URLs. There may be none.
+    pub resources: &'a [ResourceFile<'a>],
     /// The features that the document may use.
     pub profile: Profile,
     /// How many faults are shown.
@@ -47,6 +51,8 @@ pub struct Show<'a> {
     /// The paths of the tables' files, in the order of the tables. If there are none, the files are found beside the
     /// document.
     pub files: &'a [&'a str],
+    /// The files of the schemas and dialects that the document names by their URLs. There may be none.
+    pub resources: &'a [ResourceFile<'a>],
     /// The features that the document may use.
     pub profile: Profile,
     /// How many faults are shown.
@@ -83,6 +89,15 @@ impl<'a> Check<'a> {
             files: self.files,
         }
     }
+
+    /// Returns the document and its resources.
+    pub fn source(&self) -> Source<'a> {
+        Source {
+            base: self.base,
+            meta: self.meta,
+            resources: self.resources,
+        }
+    }
 }
 
 impl<'a> Show<'a> {
@@ -92,6 +107,15 @@ impl<'a> Show<'a> {
             base: self.base,
             meta: self.meta,
             files: self.files,
+        }
+    }
+
+    /// Returns the document and its resources.
+    pub fn source(&self) -> Source<'a> {
+        Source {
+            base: self.base,
+            meta: self.meta,
+            resources: self.resources,
         }
     }
 }

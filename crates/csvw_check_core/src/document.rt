@@ -6,9 +6,11 @@ use crate::datatype_hint::push_datatype_hint;
 use crate::expected::{JsonEnd, push_expected};
 use crate::missing::push_missing;
 use crate::refused::{Refused, tell_all};
+use crate::resource_hint::push_resource_hint;
 use csvw_columns::Plan;
 use csvw_files::{Opener, read_document};
 use csvw_hints::{Group, line_and_column, place_of, push_disguise};
+use csvw_meta::document::own_url;
 use csvw_meta::{Description, MetaCode, MetaFault, Profile, ReadDescription};
 use csvw_page::{Halt, Page, StopShown, Summary, push_text};
 use csvw_streams::Counted;
@@ -22,6 +24,10 @@ const UNREAD: &str = "the file can't be opened or read: correct its path, or its
 /// What is told of a document that is refused and can't be read again.
 const UNSEEN: &str =
     "    the document can't be read again: give it as a file, and its other faults are listed with their lines\n";
+
+/// What is told of a resource whose URL isn't absolute.
+const RELATIVE_RESOURCE: &str =
+    "    the URL of a resource isn't absolute: write `--resource http://example.org/schema.json=FILE`\n";
 
 /// What counts as memory that ran out, besides the machine's.
 const EXPRESSION_TOO_LARGE: &str =
@@ -61,7 +67,7 @@ fn json_end(alloc: Global, bytes: &[u8]) -> JsonEnd {
 }
 
 /// Reads the document at a path. Returns its bytes, or `None` if it can't be opened or read.
-pub fn opened<O: Opener>(alloc: Global, path: &str, opener: &mut O) -> Option<Vec<u8>> {
+pub(crate) fn opened<O: Opener>(alloc: Global, path: &str, opener: &mut O) -> Option<Vec<u8>> {
     let reader = opener.open(path)?;
     let mut reader = Counted::new(reader);
     let read = read_document(alloc, &mut reader);
@@ -94,6 +100,16 @@ pub(crate) struct Told<'a> {
     pub(crate) note: &'static str,
 }
 
+/// Adds which URL isn't absolute: that of the document, or else one of a resource.
+fn push_relative(hints: &mut String, alloc: Global, base: &str) -> Result<(), AllocError> {
+    if own_url(alloc, base).is_ok() {
+        return hints.push_str(RELATIVE_RESOURCE);
+    }
+    hints.push_str("    ")?;
+    push_text(hints, base)?;
+    hints.push_str(" isn't absolute: write `--base http://example.org/metadata.json`\n")
+}
+
 /// Adds what else helps with a fault of a document.
 fn push_document_hints(
     hints: &mut String,
@@ -103,7 +119,11 @@ fn push_document_hints(
     told: &Told<'_>,
 ) -> Result<(), AllocError> {
     let fault = told.fault;
+    if told.place.0 > 0 {
+        push_resource_hint(hints, without_bom(bytes), fault)?;
+    }
     match fault.code {
+        _ if !hints.is_empty() => Ok(()),
         MetaCode::NotJson if told.place.0 == 0 => Ok(()),
         MetaCode::NotJson => push_json_hint(hints, alloc, group.meta, bytes),
         MetaCode::NotSupported | MetaCode::BadDatatype => {
@@ -112,11 +132,7 @@ fn push_document_hints(
         MetaCode::BadProperty => {
             push_missing(hints, alloc, without_bom(bytes), fault.pointer.as_str())
         }
-        MetaCode::BadUrl if fault.pointer.is_empty() => {
-            hints.push_str("    ")?;
-            push_text(hints, group.base)?;
-            hints.push_str(" isn't absolute: write `--base http://example.org/metadata.json`\n")
-        }
+        MetaCode::BadUrl if fault.pointer.is_empty() => push_relative(hints, alloc, group.base),
         MetaCode::Memory => hints.push_str(EXPRESSION_TOO_LARGE),
         _ => Ok(()),
     }
@@ -125,7 +141,7 @@ fn push_document_hints(
 /// Returns the line and the column of a fault of the document, both from 1.
 pub(crate) fn place_of_fault(alloc: Global, bytes: &[u8], fault: &MetaFault) -> (usize, usize) {
     match fault.code {
-        MetaCode::NotJson => end_of_json(alloc, bytes),
+        MetaCode::NotJson if fault.pointer.is_empty() => end_of_json(alloc, bytes),
         _ => place_of(bytes, fault.pointer.as_str()),
     }
 }
@@ -238,22 +254,6 @@ pub fn tell_unread(page: &mut Page, file: &UnreadFile<'_>) -> Result<(), AllocEr
     })
 }
 
-/// Adds that the document can't be opened or read.
-pub fn tell_unread_document(
-    page: &mut Page,
-    meta: &str,
-    error: Option<io::Error>,
-) -> Result<(), AllocError> {
-    tell_unread(
-        page,
-        &UnreadFile {
-            path: meta,
-            table: 0,
-            error,
-        },
-    )
-}
-
 /// Adds that there is not one file for each table, and lists the tables.
 pub(crate) fn tell_table_count(
     page: &mut Page,
@@ -288,8 +288,8 @@ pub(crate) fn tell_table_count(
 /// Why nothing of a group can be read.
 #[derive(Clone, Copy)]
 pub enum Alone<'a> {
-    /// The document can't be opened or read. The system's error is here, if it is known.
-    Unread(Option<io::Error>),
+    /// This file can't be opened or read: the document, or that of a resource.
+    Unread(UnreadFile<'a>),
     /// The document has this fault, and can't be read again.
     Unseen(&'a MetaFault),
     /// The document has faults.
@@ -317,7 +317,7 @@ pub fn show_alone<W: Write>(
 ) -> Result<(), Halt> {
     page.begin(group.meta, None)?;
     let told = match reason {
-        Alone::Unread(error) => tell_unread_document(page, group.meta, *error),
+        Alone::Unread(file) => tell_unread(page, file),
         Alone::Unseen(fault) => tell_unseen(page, group, fault),
         Alone::Refused(refused) => tell_all(page, group, refused),
         Alone::TableCount(plan) => tell_table_count(page, group, plan),

@@ -25,20 +25,21 @@ mod near;
 mod objects;
 mod refused;
 mod report;
+mod resource_hint;
+mod source;
 mod status;
 mod stop;
 mod unknown;
 
 pub use asked::{Check, Show, ShowTable, Strict};
+pub use csvw_files::ResourceFile;
 pub use csvw_hints::{Group, Tables};
 pub use csvw_meta::Profile;
 pub use csvw_page::{Color, DEVICE, Form, Halt, Page, REFUSED, push_escaped};
 pub use csvw_reread::{Repeat, Shown, Walker, paths};
-pub use document::{
-    Alone, UnreadFile, end_page, opened, plan_of, show_alone, tell_plain, tell_unread,
-    tell_unread_document,
-};
+pub use document::{Alone, UnreadFile, end_page, plan_of, show_alone, tell_plain, tell_unread};
 pub use refused::Refused;
 pub use report::Report;
+pub use source::{Document, Opened, Source, open_document, unread_file};
 pub use status::{status_of, status_of_stop};
 pub use stop::{Stopped, tell_memory, tell_stop};

@@ -149,7 +149,9 @@ fn tell_unknown(
     group: &Group<'_>,
     refused: &Refused<'_>,
 ) -> Result<(), AllocError> {
-    if refused.fault.code == MetaCode::NotJson || refused.bytes.len() > MAX_DOCUMENT {
+    let fault = refused.fault;
+    let is_json = fault.code != MetaCode::NotJson || !fault.pointer.is_empty();
+    if !is_json || refused.bytes.len() > MAX_DOCUMENT {
         return Ok(());
     }
     show_unknown(page, group.meta, refused.bytes)?;

@@ -252,7 +252,8 @@ pub(crate) fn show_unknown(page: &mut Page, path: &str, bytes: &[u8]) -> Result<
     Ok(count)
 }
 
-/// Adds so many properties of the document that are ignored. Those whose names have escapes are counted.
+/// Adds so many properties of the document that are ignored. Those of a resource, and
+/// those whose names have escapes, are counted.
 pub(crate) fn show_ignored(
     page: &mut Page,
     path: &str,

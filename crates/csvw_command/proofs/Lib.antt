@@ -1,4 +1,6 @@
 mod Ending
+mod Looking
 mod Opening
+mod ResourceLemmas
 mod Running
 mod Sending

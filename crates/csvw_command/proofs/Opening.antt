@@ -8,10 +8,8 @@ use Rattle.csvw_streams.specs.declared.counted.Counted.{Counted}
 use Rattle.csvw_streams.specs.Counted.{inner_of, failures_of}
 use Rattle.csvw_command_core.specs.declared.request.Group.{Group}
 use Rattle.csvw_engine_core.specs.declared.stop.Stop.TheVariants as stop
-use Rattle.csvw_engine_core.specs.declared.stop.Stop.{Stop}
 use Rattle.csvw_command_core.proofs.Counting.{map_next}
-use Rattle.csvw_files.specs.Documents.{IsDocument, IsReadStop}
-use Rattle.csvw_command.specs.Groups.{ClosesAll, OpensAll, OpensGroup, OpensNot, ReadsMeta, StopsOpening}
+use Rattle.csvw_command.specs.Groups.{ClosesAll, OpensAll, OpensGroup, StopsOpening}
 
 -- one path more
 pub opens_next : {O R : Type 0} (opens : O → Text → Option R → O → Type 0) (old : O) (paths : List Text) (readers : List (Counted R)) (between : O)
@@ -90,39 +88,6 @@ pub opened_as : {O R : Type 0} (opens : O → Text → Option R → O → Type 0
 opened_as opens closes remaining group old new bytes same_bytes readers same_readers p q opened =
     subst (λ b. OpensGroup opens closes remaining group old new b same_readers) (sym p)
     (subst (λ r. OpensGroup opens closes remaining group old new bytes r) (sym q) opened)
-
-module _ {O R : Type 0} (opens : O → Text → Option R → O → Type 0) (closes : O → Counted R → O → Type 0) (remaining : R → Option (List ℕ))
-    (group : Group) (old : O) (gave : Option R) (between : O) (reader : R) (fresh left : Counted R) (new : O)
-    (opened : opens old group.meta.now gave between) (some : gave ≡ Some reader) (inner : inner_of fresh ≡ reader) (steady : failures_of fresh ≡ 0)
-    (closed : closes between left new) where
-  meta_opened : opens old group.meta.now (Some (inner_of fresh)) between
-  meta_opened = subst (λ x. opens old group.meta.now x between) (some ∙ ap Some (sym inner)) opened
-
-  -- the metadata is opened and can't be read
-  pub unread : (reason : Stop) → IsReadStop fresh left reason → OpensNot opens closes remaining group old new reason
-  unread reason stops = inr (inl (record {
-    reader = fresh;
-    between = between;
-    opened = meta_opened;
-    fresh = steady;
-    left = left;
-    reason_is = stops;
-    closed = closed;
-  }))
-
-  -- it is opened and read
-  pub reads_meta : (bytes : List ℕ) → IsDocument (remaining (inner_of fresh)) bytes → failures_of left ≡ failures_of fresh
-      → ReadsMeta opens closes remaining group old new bytes
-  reads_meta bytes has same = record {
-    reader = fresh;
-    between = between;
-    opened = meta_opened;
-    fresh = steady;
-    has = has;
-    left = left;
-    steady = same ∙ steady;
-    closed = closed;
-  }
 
 -- one reader more is handed back
 pub closes_next : {O R : Type 0} (closes : O → Counted R → O → Type 0) (old : O) (readers : List (Counted R)) (between : O) (r : Counted R) (new : O)

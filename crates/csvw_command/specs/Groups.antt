@@ -1,5 +1,5 @@
 -- A run over the files of a group of tables, from their opening to their closing: `RunsGroup`.
-use Rattle.std.specs.Prelude.{◌≡◌, ◌⊎◌, ℕ, Bool, true, false, List, [], ◌∷◌, ◌++◌, Option, None, Some, Result, Ok, Err}
+use Rattle.std.specs.Prelude.{◌≡◌, ◌⊎◌, ℕ, Bool, true, false, List, [], ◌∷◌, ◌++◌, map, Option, None, Some, Result, Ok, Err}
 use Rattle.std.specs.Prelude.{bytes_eq, codes, if◌then◌else◌}
 use Rattle.std.specs.Borrow.{Bor}
 use Rattle.clap.specs.Words.{Text}
@@ -18,7 +18,10 @@ use Rattle.csvw_engine.specs.declared.room.Order.TheVariants.{InTurns, TableByTa
 use Rattle.csvw_command_core.specs.Asked.{paths_of}
 use Rattle.csvw_command_core.specs.declared.request.Group.{Group}
 use Rattle.csvw_command.specs.Answers.{TellsStop}
-use Rattle.csvw_files.specs.Documents.{IsDocument, IsReadStop}
+use Rattle.csvw_files.specs.Files.{ReadsFile, ReadsNot}
+use Rattle.csvw_files.specs.ResourceFiles.{BundlesFiles, BundlesNot}
+use Rattle.csvw_files.specs.declared.resources.ResourceFile.{ResourceFile}
+use Rattle.csvw_command.specs.Resources.{AreResources}
 use Rattle.csvw_command.specs.Status.{outcome_status}
 use Rattle.csvw_meta.specs.Document.{document_by}
 use Rattle.csvw_meta_core.specs.declared.profile.Profile.{Profile}
@@ -63,38 +66,41 @@ pub record StopsOpening {O R : Type 0} (opens : O → Text → Option R → O �
   pub opened : OpensAll opens old front readers between
   pub fails : ((reason ≡ stop.Memory) × (new ≡ between)) ⊎ ((reason ≡ stop.Read) × MissesFirst opens between rest new)
 
--- The metadata is opened and read: its reader, which had not failed, was read without a failure, and was handed back as it was left.
+-- The metadata is read, and its resources take the place of their URLs.
 pub record ReadsMeta {O R : Type 0} (opens : O → Text → Option R → O → Type 0) (closes : O → Counted R → O → Type 0) (remaining : R → Option (List ℕ))
     (group : Group) (old new : O) (bytes : List ℕ) : Type 0 where
-  pub reader : Counted R
+  pub own : List ℕ
   pub between : O
-  pub opened : opens old group.meta.now (Some (inner_of reader)) between
-  pub fresh : failures_of reader ≡ 0
-  pub has : IsDocument (remaining (inner_of reader)) bytes
-  pub left : Counted R
-  pub steady : failures_of left ≡ 0
-  pub closed : closes between left new
+  pub read : ReadsFile opens closes remaining group.meta.now old between own
+  pub resources : List ResourceFile
+  pub are_resources : AreResources (map (λ word. word.now) group.resources.items) resources
+  pub bundled : BundlesFiles opens closes remaining resources group.base.now own between new bytes
 
--- The metadata is opened, and its reader, which had not failed, fails, or memory runs out. The reader is handed back as it was left. No file of
--- a table is opened.
-pub record ReadsNoMeta {O R : Type 0} (opens : O → Text → Option R → O → Type 0) (closes : O → Counted R → O → Type 0) (group : Group) (old new : O)
-    (reason : Stop) : Type 0 where
-  pub reader : Counted R
+-- the metadata is read, and it can't be had with its resources
+pub record LacksResource {O R : Type 0} (opens : O → Text → Option R → O → Type 0) (closes : O → Counted R → O → Type 0)
+    (remaining : R → Option (List ℕ)) (group : Group) (old new : O) (reason : Stop) : Type 0 where
+  pub own : List ℕ
   pub between : O
-  pub opened : opens old group.meta.now (Some (inner_of reader)) between
-  pub fresh : failures_of reader ≡ 0
-  pub left : Counted R
-  pub reason_is : IsReadStop reader left reason
-  pub closed : closes between left new
+  pub read : ReadsFile opens closes remaining group.meta.now old between own
+  pub resources : List ResourceFile
+  pub are_resources : AreResources (map (λ word. word.now) group.resources.items) resources
+  pub not_bundled : BundlesNot opens closes remaining resources group.base.now own between new reason
 
--- the metadata is opened and read, and then the files of the tables are opened
+-- why the metadata isn't read
+abbrev pub ReadsNoMeta : {O R : Type 0} → (O → Text → Option R → O → Type 0) → (O → Counted R → O → Type 0) → (R → Option (List ℕ)) → Group → O → O → Stop
+    → Type 0
+ReadsNoMeta opens closes remaining group old new reason =
+    ((reason ≡ stop.Memory) × (new ≡ old))
+    ⊎ (ReadsNot opens closes group.meta.now old new reason ⊎ LacksResource opens closes remaining group old new reason)
+
+-- the metadata is read, and then the files of the tables are opened
 pub record OpensGroup {O R : Type 0} (opens : O → Text → Option R → O → Type 0) (closes : O → Counted R → O → Type 0) (remaining : R → Option (List ℕ))
     (group : Group) (old new : O) (bytes : List ℕ) (readers : List (Counted R)) : Type 0 where
   pub between : O
   pub meta_read : ReadsMeta opens closes remaining group old between bytes
   pub files_opened : OpensAll opens between (paths_of group) readers new
 
--- the metadata is opened and read, and then a file of a table isn't opened
+-- the metadata is read, and then a file of a table isn't opened
 pub record LacksFile {O R : Type 0} (opens : O → Text → Option R → O → Type 0) (closes : O → Counted R → O → Type 0) (remaining : R → Option (List ℕ))
     (group : Group) (old new : O) (reason : Stop) : Type 0 where
   pub between : O
@@ -106,8 +112,7 @@ pub record LacksFile {O R : Type 0} (opens : O → Text → Option R → O → T
 abbrev pub OpensNot : {O R : Type 0} → (O → Text → Option R → O → Type 0) → (O → Counted R → O → Type 0) → (R → Option (List ℕ)) → Group → O → O → Stop
     → Type 0
 OpensNot opens closes remaining group old new reason =
-    ((reason ≡ stop.Read) × opens old group.meta.now None new)
-    ⊎ (ReadsNoMeta opens closes group old new reason ⊎ LacksFile opens closes remaining group old new reason)
+    ReadsNoMeta opens closes remaining group old new reason ⊎ LacksFile opens closes remaining group old new reason
 
 -- the group isn't opened, which is reported
 pub record TellsUnopened {O R : Type 0} (opens : O → Text → Option R → O → Type 0) (closes : O → Counted R → O → Type 0) (remaining : R → Option (List ℕ))

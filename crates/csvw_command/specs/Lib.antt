@@ -3,5 +3,6 @@ pub mod Commands
 pub mod Explained
 pub mod Groups
 pub mod Lines
+pub mod Resources
 pub mod Shown
 pub mod Status

@@ -73,6 +73,7 @@ pub(crate) fn explain_look<O: Opener, V: Write>(
         base: look.asked.base,
         meta: look.asked.meta,
         files: &[],
+        resources: look.asked.resources,
         profile: look.asked.profile,
         shown: Shown::First,
         form: Form::Text,

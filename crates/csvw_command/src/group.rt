@@ -1,13 +1,15 @@
 //! Runs over the files of a group of tables.
 ghost use Rattle.std.specs.Prelude.{◌≡◌, ◌≤◌, IfErr, IfOk, map};
-ghost use Rattle.csvw_command.specs.Groups.{ClosesAll, EndsSo, Leaves, OpensAll, OpensGroup, OpensNot, RunsGroup, StopsOpening, order_of};
+ghost use Rattle.csvw_command.specs.Groups.{ClosesAll, EndsSo, Leaves, OpensAll, OpensGroup, OpensNot, ReadsMeta, ReadsNoMeta, RunsGroup};
+ghost use Rattle.csvw_command.specs.Groups.{StopsOpening, order_of};
 ghost use Rattle.csvw_streams.specs.Streams.{stream_of};
 
 use crate::profile::profile_of;
+use crate::resources::resource_files;
 use crate::tell::{outcome_status, tell_stop};
 use csvw_command_core::Group;
 use csvw_engine::{Order, Outcome, Request, Stop, Way, run_by};
-use csvw_files::{Opener, read_document};
+use csvw_files::{Opener, bundle_files, read_file};
 use csvw_text::{Counted, Fault, Seq};
 use csvw_triples_core::Mode;
 use std::alloc::Global;
@@ -43,8 +45,22 @@ fn open_all<O: Opener>(
     Ok(readers)
 }
 
-/// Opens and reads the metadata, and then opens the files of the tables. The reader of the metadata is handed back as soon
-/// as it was read, also if it failed.
+/// Reads the metadata, and the resources that take the place of their URLs in it. Each reader is handed back as soon as it
+/// was read, also if it failed.
+fn read_meta<O: Opener>(alloc: Global, group: &Group<'_>, opener: &mut O) -> Result<Vec<u8>, Stop>
+    ensures read { IfOk result (λ bytes. ReadsMeta O.opens O.closes O.Reader.remaining group.now opener.old opener.new bytes.items) }
+    ensures stop { IfErr result (λ reason. ReadsNoMeta O.opens O.closes O.Reader.remaining group.now opener.old opener.new reason) }
+{
+    let Ok(resources) = resource_files(alloc, group.resources.as_slice()) else {
+        return Err(Stop::Memory);
+    };
+    match read_file(alloc, group.meta, opener) {
+        Ok(own) => bundle_files(alloc, own, group.base, resources.as_slice(), opener),
+        Err(stop) => Err(stop),
+    }
+}
+
+/// Reads the metadata, and then opens the files of the tables.
 fn open_group<O: Opener>(
     alloc: Global,
     group: &Group<'_>,
@@ -54,15 +70,14 @@ fn open_group<O: Opener>(
         opened.meta.items opened.readers.items) }
     ensures stop { IfErr result (λ reason. OpensNot O.opens O.closes O.Reader.remaining group.now opener.old opener.new reason) }
 {
-    let Some(reader) = opener.open(group.meta) else {
-        return Err(Stop::Read);
+    let meta = match read_meta(alloc, group, opener) {
+        Ok(meta) => meta,
+        Err(stop) => return Err(stop),
     };
-    let mut reader = Counted::new(reader);
-    let read = read_document(alloc, &mut reader);
-    opener.close(reader);
-    let meta = read?;
-    let readers = open_all(alloc, group.files.as_slice(), opener)?;
-    Ok(Opened { meta, readers })
+    match open_all(alloc, group.files.as_slice(), opener) {
+        Ok(readers) => Ok(Opened { meta, readers }),
+        Err(stop) => Err(stop),
+    }
 }
 
 /// Hands back the readers of all tables, in order.

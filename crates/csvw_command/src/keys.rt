@@ -57,6 +57,7 @@ pub fn run_keys<O: Opener, W: Write, V: Write>(
         path: asked.meta,
         base: asked.base,
         profile: asked.profile,
+        resources: asked.resources.as_slice(),
     };
     if let Err(stop) = plan_of(alloc, document, opener) {
         return stop.tell(opener, err);

@@ -22,6 +22,7 @@ mod plans;
 mod profile;
 mod program;
 mod reports;
+mod resources;
 mod shown;
 mod split;
 mod table;

@@ -5,8 +5,10 @@ ghost use Rattle.csvw_streams.specs.Streams.{stream_of};
 
 use crate::explained::{StoppedLook, explain_look};
 use crate::profile::profile_of;
+use crate::resources::resource_files;
 use crate::tell::{SUCCESS, tell_stop};
 use csvw_command_core::Inspected;
+use csvw_engine::Stop;
 use csvw_files::Opener;
 use csvw_inspect::{Inspect, InspectForm, inspect};
 use csvw_text::Counted;
@@ -54,11 +56,15 @@ pub(crate) fn run_inspect<O: Opener, W: Write, V: Write>(
     ensures runs { RunsInspect asked.now.explain (stream_of V.contents err.old err.new) result }
     ensures bound { result ≤ 4 }
 {
+    let Ok(resources) = resource_files(alloc, asked.resources.as_slice()) else {
+        return tell_stop(&Stop::Memory, err);
+    };
     let own = opener.url(asked.meta);
     let look = Inspect {
         base: base_of(asked.base, &own),
         meta: asked.meta,
         profile: profile_of(asked.profile),
+        resources: resources.as_slice(),
         form: match asked.json {
             true => InspectForm::Json,
             false => InspectForm::Text,

@@ -115,7 +115,7 @@ fn has_keys(plan: &Plan) -> bool {
 /// Reads the metadata, and makes the plan of the group.
 fn read_group<'a, O: Opener>(
     alloc: Global,
-    group: &Group<'a>,
+    group: &'a Group<'a>,
     opener: &mut O,
 ) -> Result<Plan, NoRun<'a>>
     ensures { IfOk result (λ plan. AreReady plan.tables) }
@@ -124,6 +124,7 @@ fn read_group<'a, O: Opener>(
         path: group.meta,
         base: group.base,
         profile: group.profile,
+        resources: group.resources.as_slice(),
     };
     let plan = plan_of(alloc, document, opener)?;
     if plan.tables().len() != group.files.len() {
@@ -221,7 +222,7 @@ fn has_all_tables(part: &Part, plan: &Plan) -> bool {
 /// Reads what a part needs before its rows.
 fn read_plans<'a, O: Opener>(
     alloc: Global,
-    group: &Group<'a>,
+    group: &'a Group<'a>,
     opener: &mut O,
 ) -> Result<(Part, Plan), NoRun<'a>>
     ensures { IfOk result (λ plans. AreReady plans.1.tables) }

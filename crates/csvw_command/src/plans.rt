@@ -3,10 +3,11 @@ ghost use Rattle.std.specs.Prelude.{◌≤◌, IfOk};
 ghost use Rattle.csvw_columns.specs.Ready.{AreReady};
 
 use crate::profile::profile_of;
+use crate::resources::resource_files;
 use crate::tell::tell_stop;
 use csvw_columns::Plan;
 use csvw_engine::{Stop, planned};
-use csvw_files::{Opener, note_unread, read_document};
+use csvw_files::{Opener, ResourceFile, bundle_files, note_unread, read_document};
 use csvw_text::Counted;
 use std::alloc::Global;
 use std::io::Write;
@@ -59,6 +60,8 @@ pub(crate) struct DocumentFile<'a> {
     pub(crate) base: &'a str,
     /// The name of its profile, if one is given.
     pub(crate) profile: Option<&'a str>,
+    /// The resources that take the place of their URLs in it, each as `URL=FILE`.
+    pub(crate) resources: &'a [&'a str],
 }
 
 /// Reads a file of at most the length of a document, or one byte more.
@@ -80,7 +83,34 @@ pub(crate) fn read_file<'a, O: Opener>(
     }
 }
 
-/// Reads a metadata document, and plans its tables.
+/// Returns that the first file which the system refused can't be read.
+fn unread_resource<'a, O: Opener>(files: &[ResourceFile<'a>], opener: &O) -> FileStop<'a> {
+    for file in files {
+        if opener.io_error(file.path).is_some() {
+            return FileStop::Unread(file.path);
+        }
+    }
+    FileStop::Stop(Stop::Read)
+}
+
+/// Returns the bytes of a document, in which the objects of its resources take the place of their URLs.
+fn with_resources<'a, O: Opener>(
+    alloc: Global,
+    own: Vec<u8>,
+    document: DocumentFile<'a>,
+    opener: &mut O,
+) -> Result<Vec<u8>, FileStop<'a>> {
+    let Ok(files) = resource_files(alloc, document.resources) else {
+        return Err(FileStop::Stop(Stop::Memory));
+    };
+    match bundle_files(alloc, own, document.base, files.as_slice(), opener) {
+        Ok(bytes) => Ok(bytes),
+        Err(Stop::Read) => Err(unread_resource(files.as_slice(), opener)),
+        Err(stop) => Err(FileStop::Stop(stop)),
+    }
+}
+
+/// Reads a metadata document with its resources, and plans its tables.
 pub(crate) fn plan_of<'a, O: Opener>(
     alloc: Global,
     document: DocumentFile<'a>,
@@ -88,7 +118,8 @@ pub(crate) fn plan_of<'a, O: Opener>(
 ) -> Result<Plan, FileStop<'a>>
     ensures { IfOk result (λ plan. AreReady plan.tables) }
 {
-    let meta = read_file(alloc, document.path, opener)?;
+    let own = read_file(alloc, document.path, opener)?;
+    let meta = with_resources(alloc, own, document, opener)?;
     let profile = profile_of(document.profile);
     match planned(alloc, meta.as_slice(), document.base, profile) {
         Ok(plan) => Ok(plan),

@@ -11,6 +11,7 @@ use crate::keys::run_keys;
 use crate::look::{base_of, run_inspect};
 use crate::profile::profile_of;
 use crate::reports::run_join;
+use crate::resources::resource_files;
 use crate::shown::{color_of, form_of, run_report, shown_of};
 use crate::split::run_split;
 use crate::table::{PlainTable, run_table};
@@ -58,12 +59,16 @@ fn run_check<O: Opener, W: Write, V: Write>(
 ) -> u8
     ensures { result ≤ 4 }
 {
+    let Ok(resources) = resource_files(alloc, asked.resources.as_slice()) else {
+        return tell_stop(&Stop::Memory, err);
+    };
     let own = opener.url(asked.meta);
     let asked = Check {
         base: base_of(asked.base, &own),
         meta: asked.meta,
         files: asked.files.as_slice(),
         profile: profile_of(asked.profile),
+        resources: resources.as_slice(),
         shown: shown_of(&asked.reporting),
         form: form_of(asked.reporting.form),
         color: color_of(asked.reporting.color, opener.colors().out),

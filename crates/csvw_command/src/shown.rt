@@ -8,11 +8,12 @@ ghost use Rattle.csvw_triples_core.specs.declared.mode.Mode.TheVariants as mode;
 use crate::group::{Ended, GroupRun, run_group};
 use crate::parts::run_one_part;
 use crate::profile::profile_of;
+use crate::resources::resource_files;
 use crate::tell::tell_stop;
 use csvw_check::{Color, Form, Halt, Show, Shown, explain_stop, show};
 use csvw_command_core::{Group, Reporting};
 use csvw_engine::Stop;
-use csvw_files::{Colors, Opener};
+use csvw_files::{Colors, Opener, ResourceFile};
 use csvw_text::Counted;
 use csvw_triples_core::Mode;
 use std::alloc::Global;
@@ -86,14 +87,15 @@ struct Page<'a> {
 }
 
 impl<'a> Page<'a> {
-    /// Returns what is asked of the showing.
-    fn asked(self) -> Show<'a> {
+    /// Returns what is asked of the showing, with the files of the document's resources.
+    fn asked(self, resources: &'a [ResourceFile<'a>]) -> Show<'a> {
         let reporting = &self.group.reporting;
         Show {
             base: self.group.base,
             meta: self.group.meta,
             files: self.group.files.as_slice(),
             profile: profile_of(self.group.profile),
+            resources,
             shown: shown_of(reporting),
             form: form_of(reporting.form),
             color: color_of(reporting.color, self.is_colored),
@@ -121,7 +123,10 @@ fn show_page<O: Opener, W: Write>(
     opener: &mut O,
     out: &mut Counted<W>,
 ) -> Option<Stop> {
-    match show(alloc, &page.asked(), opener, out) {
+    let Ok(resources) = resource_files(alloc, page.group.resources.as_slice()) else {
+        return Some(Stop::Memory);
+    };
+    match show(alloc, &page.asked(resources.as_slice()), opener, out) {
         Err(Halt::Memory) => Some(Stop::Memory),
         Err(Halt::Write) => Some(Stop::Write),
         Ok(()) => match out.flush() {
@@ -193,6 +198,19 @@ fn convert_shown<O: Opener, W: Write, V: Write>(
     page.status()
 }
 
+/// Explains the stop of a run that ended, as far as the stream takes it. The stop was reported before.
+fn explain_end<O: Opener, V: Write>(
+    alloc: Global,
+    page: Page<'_>,
+    opener: &mut O,
+    err: &mut Counted<V>,
+) {
+    if let Ok(resources) = resource_files(alloc, page.group.resources.as_slice()) {
+        let _ = explain_stop(alloc, &page.asked(resources.as_slice()), opener, err);
+        let _ = err.flush();
+    }
+}
+
 /// Runs with the CSV report. A stop is explained on `err`, if that is asked for.
 fn run_explained<O: Opener, W: Write, V: Write>(
     alloc: Global,
@@ -212,9 +230,7 @@ fn run_explained<O: Opener, W: Write, V: Write>(
         is_colored: opener.colors().err,
     };
     if asked.group.explain && ended.stop.is_some() {
-        // The stop was reported, and its status stays if the explanation can't be sent.
-        let _ = explain_stop(alloc, &page.asked(), opener, err);
-        let _ = err.flush();
+        explain_end(alloc, page, opener, err);
     }
     page.status()
 }

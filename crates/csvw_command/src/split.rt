@@ -103,13 +103,14 @@ fn split_files<'a, O: Opener>(
 /// Returns the pieces of the parts.
 fn pieces_of<'a, O: Opener>(
     alloc: Global,
-    asked: &SplitFiles<'a>,
+    asked: &'a SplitFiles<'a>,
     opener: &mut O,
 ) -> Result<Seq<Piece>, NoPlan<'a>> {
     let document = DocumentFile {
         path: asked.meta,
         base: asked.base,
         profile: asked.profile,
+        resources: asked.resources.as_slice(),
     };
     match plan_of(alloc, document, opener) {
         Ok(plan) => split_files(alloc, &plan, asked, opener),

@@ -1,3 +1,4 @@
 mod Asking
 pub mod Counting
 pub mod Joining
+mod Splitting

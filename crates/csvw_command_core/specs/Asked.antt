@@ -5,7 +5,7 @@ use Rattle.std.specs.Str.Parse.{IsNumeral, digits_value, without_leading_plus}
 use Rattle.clap.specs.Words.{App, Row, Rule, Text, all_of, fault_of, first_of, new_app, new_rule, subcommand_of, with_rule, with_subcommand}
 use Rattle.clap.specs.Simple.{new_shape}
 use Rattle.clap.specs.Lexer.{usize_max}
-use Rattle.clap.specs.declared.builder.action.ArgAction.TheVariants.{SetTrue}
+use Rattle.clap.specs.declared.builder.action.ArgAction.TheVariants.{Append, SetTrue}
 use Rattle.clap.specs.declared.parser.matches.ValueSource.{ValueSource}
 use Rattle.clap.specs.declared.parser.matches.ValueSource.TheVariants.{CommandLine}
 use Rattle.csvw_command_core.specs.declared.request.CheckedGroup.{CheckedGroup}
@@ -42,6 +42,10 @@ files_rule = record (required_rule (codes "FILE")) { range = Some (record { star
 abbrev pub option_rule : Text → Rule
 option_rule id = record (new_rule id) { long = Some id; value_names = 1 }
 
+-- the option `--resource URL=FILE`, which may be there several times
+abbrev pub resource_rule : Rule
+resource_rule = record (option_rule (codes "resource")) { action = Some Append }
+
 -- the positional argument of files, of which there may be none
 abbrev pub some_files_rule : Rule
 some_files_rule = record (new_rule (codes "FILE")) { range = Some (record { start_inclusive = 1; end_inclusive = usize_max }) }
@@ -56,11 +60,13 @@ with_reporting app =
 abbrev pub read_app : Text → App
 read_app name = with_rule (with_rule (with_rule (with_rule (new_app name) base_rule) (required_rule (codes "META"))) files_rule) (flag_rule (codes "turns"))
 
--- the same, with `[--explain] [--progress] [--profile NAME] [--part K] [--plan PLAN] [--keys KEYS]` and the options of a report
+-- the same, with `[--explain] [--progress] [--profile NAME] [--resource URL=FILE].. [--part K] [--plan PLAN]
+-- [--keys KEYS]` and the options of a report
 abbrev pub group_app : Text → App
 group_app name =
-    with_reporting (with_rule (with_rule (with_rule (with_rule (with_rule (with_rule (read_app name) (flag_rule (codes "explain")))
-    (flag_rule (codes "progress"))) (option_rule (codes "profile"))) (option_rule (codes "part"))) (option_rule (codes "plan"))) (option_rule (codes "keys")))
+    with_reporting (with_rule (with_rule (with_rule (with_rule (with_rule (with_rule (with_rule (read_app name) (flag_rule (codes "explain")))
+    (flag_rule (codes "progress"))) (option_rule (codes "profile"))) resource_rule) (option_rule (codes "part"))) (option_rule (codes "plan")))
+    (option_rule (codes "keys")))
 
 -- the subcommand `validate`
 abbrev pub validate_app : App
@@ -76,36 +82,38 @@ plain_app =
     with_rule (with_rule (with_rule (with_rule (with_rule (new_app (codes "plain")) (required_rule (codes "URL"))) (required_rule (codes "FILE")))
     (flag_rule (codes "line-buffered"))) (flag_rule (codes "explain"))) (flag_rule (codes "progress"))
 
--- the subcommand `check [--base URL] META [FILE..] [--progress] [--profile NAME]`, with the options of a report
+-- the subcommand `check [--base URL] META [FILE..] [--progress] [--profile NAME] [--resource URL=FILE]..`, with the options of a report
 abbrev pub check_app : App
 check_app =
-    with_reporting (with_rule (with_rule (with_rule (with_rule (with_rule (new_app (codes "check")) (option_rule (codes "base")))
-    (required_rule (codes "META"))) some_files_rule) (flag_rule (codes "progress"))) (option_rule (codes "profile")))
+    with_reporting (with_rule (with_rule (with_rule (with_rule (with_rule (with_rule (new_app (codes "check")) (option_rule (codes "base")))
+    (required_rule (codes "META"))) some_files_rule) (flag_rule (codes "progress"))) (option_rule (codes "profile"))) resource_rule)
 
 -- the subcommand `explain [CODE]`
 abbrev pub explain_app : App
 explain_app = with_rule (new_app (codes "explain")) (new_rule (codes "CODE"))
 
--- the subcommand `inspect [--base URL] [--json] [--explain] [--profile NAME] META`
+-- the subcommand `inspect [--base URL] [--json] [--explain] [--profile NAME] [--resource URL=FILE].. META`
 abbrev pub inspect_app : App
 inspect_app =
-    with_rule (with_rule (with_rule (with_rule (with_rule (new_app (codes "inspect")) (option_rule (codes "base"))) (required_rule (codes "META")))
-    (flag_rule (codes "json"))) (flag_rule (codes "explain"))) (option_rule (codes "profile"))
+    with_rule (with_rule (with_rule (with_rule (with_rule (with_rule (new_app (codes "inspect")) (option_rule (codes "base"))) (required_rule (codes "META")))
+    (flag_rule (codes "json"))) (flag_rule (codes "explain"))) (option_rule (codes "profile"))) resource_rule
 
 -- the subcommand `draft [--base URL] FILE.. [--profile NAME]`
 abbrev pub draft_app : App
 draft_app =
     with_rule (with_rule (with_rule (new_app (codes "draft")) (option_rule (codes "base"))) files_rule) (option_rule (codes "profile"))
 
--- the subcommand `split --parts N --base URL META FILE.. [--profile NAME]`
+-- the subcommand `split --parts N --base URL META FILE.. [--profile NAME] [--resource URL=FILE]..`
 abbrev pub split_app : App
 split_app =
-    with_rule (with_rule (with_rule (with_rule (with_rule (new_app (codes "split")) parts_rule) base_rule) (required_rule (codes "META"))) files_rule)
-    (option_rule (codes "profile"))
+    with_rule (with_rule (with_rule (with_rule (with_rule (with_rule (new_app (codes "split")) parts_rule) base_rule) (required_rule (codes "META")))
+    files_rule) (option_rule (codes "profile"))) resource_rule
 
--- the subcommand `keys --base URL META [--profile NAME]`
+-- the subcommand `keys --base URL META [--profile NAME] [--resource URL=FILE]..`
 abbrev pub keys_app : App
-keys_app = with_rule (with_rule (with_rule (new_app (codes "keys")) base_rule) (required_rule (codes "META"))) (option_rule (codes "profile"))
+keys_app =
+    with_rule (with_rule (with_rule (with_rule (new_app (codes "keys")) base_rule) (required_rule (codes "META"))) (option_rule (codes "profile")))
+    resource_rule
 
 -- the subcommand `report FILE..`
 abbrev pub report_app : App
@@ -147,12 +155,18 @@ pub record IsReporting (rows : List Row) (reporting : Reporting) : Type 0 where
   pub all_is : reporting.all ≡ flag_of (codes "all") rows
   pub strict_is : reporting.strict ≡ flag_of (codes "strict") rows
 
--- the URL, the metadata, all the files and the profile that the words of a subcommand name, and how they are read and reported
+-- the texts of an argument that may be missing
+abbrev pub texts_of : Option (List Text) → List Text
+texts_of None = []
+texts_of (Some texts) = texts
+
+-- the URL, the metadata, all the files, the profile and the resources that the words of a subcommand name, and how they are read and reported
 pub record IsGroup (rows : List Row) (group : Group) : Type 0 where
   pub base_is : first_of (codes "base") rows ≡ Some group.base.now
   pub meta_is : first_of (codes "META") rows ≡ Some group.meta.now
   pub files_are : all_of (codes "FILE") rows ≡ Some (map (λ file. file.now) group.files.items)
   pub profile_is : first_of (codes "profile") rows ≡ option_map (λ profile. profile.now) group.profile
+  pub resources_are : texts_of (all_of (codes "resource") rows) ≡ map (λ r. r.now) group.resources.items
   pub turns_is : group.turns ≡ flag_of (codes "turns") rows
   pub reporting_is : IsReporting rows group.reporting
   pub explain_is : group.explain ≡ flag_of (codes "explain") rows
@@ -179,17 +193,13 @@ pub record ReadsConvert (name : Text) (rows : List Row) (group : Group) (minimal
   pub minimal_is : minimal ≡ flag_of (codes "minimal") rows
   pub line_buffered_is : line_buffered ≡ flag_of (codes "line-buffered") rows
 
--- the texts of an argument that may be missing
-abbrev pub texts_of : Option (List Text) → List Text
-texts_of None = []
-texts_of (Some texts) = texts
-
 pub record ReadsCheck (name : Text) (rows : List Row) (asked : CheckedGroup) : Type 0 where
   pub name_is : name ≡ codes "check"
   pub base_is : first_of (codes "base") rows ≡ option_map (λ base. base.now) asked.base
   pub meta_is : first_of (codes "META") rows ≡ Some asked.meta.now
   pub files_are : texts_of (all_of (codes "FILE") rows) ≡ map (λ file. file.now) asked.files.items
   pub profile_is : first_of (codes "profile") rows ≡ option_map (λ profile. profile.now) asked.profile
+  pub resources_are : texts_of (all_of (codes "resource") rows) ≡ map (λ r. r.now) asked.resources.items
   pub reporting_is : IsReporting rows asked.reporting
   pub progress_is : asked.progress ≡ flag_of (codes "progress") rows
 
@@ -202,6 +212,7 @@ pub record ReadsInspect (name : Text) (rows : List Row) (asked : Inspected) : Ty
   pub base_is : first_of (codes "base") rows ≡ option_map (λ base. base.now) asked.base
   pub meta_is : first_of (codes "META") rows ≡ Some asked.meta.now
   pub profile_is : first_of (codes "profile") rows ≡ option_map (λ profile. profile.now) asked.profile
+  pub resources_are : texts_of (all_of (codes "resource") rows) ≡ map (λ r. r.now) asked.resources.items
   pub json_is : asked.json ≡ flag_of (codes "json") rows
   pub explain_is : asked.explain ≡ flag_of (codes "explain") rows
 
@@ -225,6 +236,7 @@ pub record ReadsSplit (name : Text) (rows : List Row) (asked : SplitFiles) : Typ
   pub meta_is : first_of (codes "META") rows ≡ Some asked.meta.now
   pub files_are : texts_of (all_of (codes "FILE") rows) ≡ map (λ file. file.now) asked.files.items
   pub profile_is : first_of (codes "profile") rows ≡ option_map (λ profile. profile.now) asked.profile
+  pub resources_are : texts_of (all_of (codes "resource") rows) ≡ map (λ r. r.now) asked.resources.items
   pub word : Text
   pub word_is : first_of (codes "parts") rows ≡ Some word
   pub parts_are : IsCount word asked.parts
@@ -234,6 +246,7 @@ pub record ReadsKeys (name : Text) (rows : List Row) (asked : JudgedKeys) : Type
   pub base_is : first_of (codes "base") rows ≡ Some asked.base.now
   pub meta_is : first_of (codes "META") rows ≡ Some asked.meta.now
   pub profile_is : first_of (codes "profile") rows ≡ option_map (λ profile. profile.now) asked.profile
+  pub resources_are : texts_of (all_of (codes "resource") rows) ≡ map (λ r. r.now) asked.resources.items
 
 pub record ReadsReport (name : Text) (rows : List Row) (files : List Text) : Type 0 where
   pub name_is : name ≡ codes "report"

@@ -1,4 +1,5 @@
 pub mod Asked
 pub mod Mistakes
+pub mod Resources
 pub mod StandardInput
 pub mod Joined

@@ -1,7 +1,8 @@
 -- What clap accepts and the program doesn't: standard input for two files, and names that there are not: `IsSound`, `IsMistaken`.
-use Rattle.std.specs.Prelude.{◌≡◌, ◌⊎◌, ◌<◌, ◌≤◌, ◌&&◌, ◌||◌, Bool, true, false, Option, None, Some, bytes_eq, codes, nat_lt}
+use Rattle.std.specs.Prelude.{◌≡◌, ◌⊎◌, ◌<◌, ◌≤◌, ◌&&◌, ◌||◌, Bool, true, false, Option, None, Some, bytes_eq, codes, map, nat_lt}
 use Rattle.std.specs.Borrow.{Bor}
 use Rattle.clap.specs.Words.{Text}
+use Rattle.csvw_command_core.specs.Resources.{takes_resources}
 use Rattle.csvw_command_core.specs.StandardInput.{inputs_of}
 use Rattle.csvw_command_core.specs.declared.request.Reporting.{Reporting}
 use Rattle.csvw_command_core.specs.declared.request.Request.{Request}
@@ -85,9 +86,24 @@ has_known_profile (Report files) = true
 has_known_profile (Completions shell) = true
 has_known_profile Manual = true
 
+-- the resources that a request has are `URL=FILE`, and its profile takes them
+abbrev pub has_known_resources : Request → Bool
+has_known_resources (Plain url file line_buffered explain progress) = true
+has_known_resources (Validate group) = takes_resources (map (λ r. r.now) group.resources.items) group.profile
+has_known_resources (Convert group minimal line_buffered) = takes_resources (map (λ r. r.now) group.resources.items) group.profile
+has_known_resources (Check asked) = takes_resources (map (λ r. r.now) asked.resources.items) asked.profile
+has_known_resources (Explain code) = true
+has_known_resources (Inspect asked) = takes_resources (map (λ r. r.now) asked.resources.items) asked.profile
+has_known_resources (Draft asked) = true
+has_known_resources (Split asked) = takes_resources (map (λ r. r.now) asked.resources.items) asked.profile
+has_known_resources (Keys asked) = takes_resources (map (λ r. r.now) asked.resources.items) asked.profile
+has_known_resources (Report files) = true
+has_known_resources (Completions shell) = true
+has_known_resources Manual = true
+
 -- the names that a request has are known
 abbrev pub knows_names : Request → Bool
-knows_names request = has_known_profile request && knows_output request
+knows_names request = has_known_profile request && (has_known_resources request && knows_output request)
 
 -- the program does what is asked for
 pub record IsSound (request : Request) : Type 0 where

@@ -34,6 +34,9 @@ pub(crate) const PARTS: &str =
 pub(crate) const PROFILE: &str =
     "Which features a document may use: core, or w3c for more datatypes of the standard; it is core";
 
+pub(crate) const RESOURCE: &str =
+    "The file with the schema or dialect of this URL, as in `--resource http://example.org/s.json=s.json`; it may be given several times, with `--profile w3c`";
+
 pub(crate) const REPORT: &str =
     "The form of the report, as in `csvw validate --report html --base URL t.json t.csv`; it is csv, for `check` text";
 

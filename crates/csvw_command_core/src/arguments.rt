@@ -1,7 +1,7 @@
 //! The options, flags and positional arguments, in clap's terms.
 ghost use Rattle.clap.specs.Words.{rule_of};
 ghost use Rattle.clap.specs.Words.{new_rule};
-ghost use Rattle.csvw_command_core.specs.Asked.{base_rule, files_rule, flag_rule, option_rule, parts_rule, required_rule, some_files_rule};
+ghost use Rattle.csvw_command_core.specs.Asked.{base_rule, files_rule, flag_rule, option_rule, parts_rule, required_rule, resource_rule, some_files_rule};
 ghost use Rattle.std.specs.Prelude.{◌≡◌, codes, false};
 
 use crate::argument_help;
@@ -39,6 +39,8 @@ pub(crate) const EXPLAINED: &str = "explain";
 pub(crate) const PROGRESS: &str = "progress";
 
 pub(crate) const PROFILE: &str = "profile";
+
+pub(crate) const RESOURCE: &str = "resource";
 
 pub(crate) const JSON: &str = "json";
 
@@ -102,6 +104,18 @@ pub(crate) fn parts<'a>(alloc: Global) -> Arg<'a>
         .value_name("N")
         .required(true)
         .help(argument_help::PARTS)
+}
+
+/// The file that has what a URL names. It may be given several times.
+pub(crate) fn resource<'a>(alloc: Global) -> Arg<'a>
+    ensures rule { rule_of result ≡ resource_rule }
+    ensures local { result.global ≡ false }
+{
+    Arg::new(alloc, RESOURCE)
+        .long(RESOURCE)
+        .value_name("URL=FILE")
+        .action(ArgAction::Append)
+        .help(argument_help::RESOURCE)
 }
 
 /// One file or more.

@@ -4,8 +4,9 @@
 //!
 //! - `requested` returns the request that the words make: the subcommand, the URL, all files in order, the options and
 //!   the flags (`Asks`). Else it returns the kind of clap's error or text (`FailsBy`).
-//! - `mistake_in` returns a text exactly if a request names standard input twice or names a form of reports, a colour,
-//!   a profile or a shell that there is not (`IsMistaken`).
+//! - `mistake_in` returns a text exactly if a request names standard input twice, names a form of reports, a colour, a
+//!   profile or a shell that there is not, or has a resource that it can't have (`IsMistaken`).
+//! - `split_resource` returns the URL and the file of a resource `URL=FILE`, at its last equals sign (`resource_of`).
 //! - `command_line` returns the program's subcommands and arguments (`program_app`).
 #![tactic(auto)]
 
@@ -15,6 +16,7 @@ mod arguments;
 mod matches;
 mod mistakes;
 mod request;
+mod resources;
 mod standard_input;
 mod subcommands;
 
@@ -23,4 +25,5 @@ pub use request::{
     CheckedGroup, DraftedFiles, Group, Inspected, JudgedKeys, Reporting, Request, SplitFiles,
     requested,
 };
+pub use resources::split_resource;
 pub use subcommands::command_line;

@@ -5,7 +5,7 @@ ghost use Rattle.std.specs.Prelude.{◌≡◌, IfOk, IfSome, codes, map};
 
 use crate::arguments::{
     ALL, BASE, CODE, COLOR, EXPLAINED, FILE, JSON, KEYS, LINE_BUFFERED, META, MINIMAL, PART, PARTS,
-    PLAN, PROFILE, PROGRESS, REPORT, SHELL, STRICT, TURNS, URL,
+    PLAN, PROFILE, PROGRESS, REPORT, RESOURCE, SHELL, STRICT, TURNS, URL,
 };
 use crate::request::{
     CheckedGroup, DraftedFiles, Group, Inspected, JudgedKeys, Reporting, Request, SplitFiles,
@@ -38,6 +38,20 @@ fn reporting_in<'a>(matches: &ArgMatches<'a>) -> Reporting<'a>
     }
 }
 
+/// Returns the texts of an argument, of which there may be none. Fails with `AllocError` if memory runs out.
+fn texts_in<'a>(
+    alloc: Global,
+    matches: &ArgMatches<'a>,
+    id: &str,
+) -> Result<Vec<&'a str>, AllocError>
+    ensures { IfOk result (λ texts. texts_of (all_of id.now (rows_of (found_of matches.now))) ≡ map (λ text. text.now) texts.items) }
+{
+    match matches.get_strs(id) {
+        Some(given) => Vec::from_slice(alloc, given),
+        None => Ok(Vec::new(alloc)),
+    }
+}
+
 fn group_in<'a>(alloc: Global, matches: &ArgMatches<'a>) -> Result<Option<Group<'a>>, AllocError>
     ensures { IfOk result (λ found. IfSome found (λ group. IsGroup (rows_of (found_of matches.now)) group)) }
 {
@@ -45,11 +59,13 @@ fn group_in<'a>(alloc: Global, matches: &ArgMatches<'a>) -> Result<Option<Group<
         if let Some(meta) = matches.get_str(META) {
             if let Some(given) = matches.get_strs(FILE) {
                 let files = Vec::from_slice(alloc, given)?;
+                let resources = texts_in(alloc, matches, RESOURCE)?;
                 return Ok(Some(Group {
                     base,
                     meta,
                     files,
                     profile: matches.get_str(PROFILE),
+                    resources,
                     turns: has_flag(matches, TURNS),
                     reporting: reporting_in(matches),
                     explain: has_flag(matches, EXPLAINED),
@@ -78,26 +94,20 @@ fn plain_in<'a>(matches: &ArgMatches<'a>) -> Option<Request<'a>>
     })
 }
 
-fn files_in<'a>(alloc: Global, matches: &ArgMatches<'a>) -> Result<Vec<&'a str>, AllocError>
-    ensures { IfOk result (λ files. texts_of (all_of (codes "FILE") (rows_of (found_of matches.now))) ≡ map (λ file. file.now) files.items) }
-{
-    match matches.get_strs(FILE) {
-        Some(given) => Vec::from_slice(alloc, given),
-        None => Ok(Vec::new(alloc)),
-    }
-}
-
 fn check_in<'a>(alloc: Global, matches: &ArgMatches<'a>) -> Result<Option<Request<'a>>, AllocError>
     ensures { IfOk result (λ found. IfSome found (λ request. Reads (codes "check") (rows_of (found_of matches.now)) request)) }
 {
     let Some(meta) = matches.get_str(META) else {
         return Ok(None);
     };
+    let files = texts_in(alloc, matches, FILE)?;
+    let resources = texts_in(alloc, matches, RESOURCE)?;
     Ok(Some(Request::Check(CheckedGroup {
         base: matches.get_str(BASE),
         meta,
-        files: files_in(alloc, matches)?,
+        files,
         profile: matches.get_str(PROFILE),
+        resources,
         reporting: reporting_in(matches),
         progress: has_flag(matches, PROGRESS),
     })))
@@ -109,17 +119,24 @@ fn explain_in<'a>(matches: &ArgMatches<'a>) -> Request<'a>
     Request::Explain(matches.get_str(CODE))
 }
 
-fn inspect_in<'a>(matches: &ArgMatches<'a>) -> Option<Request<'a>>
-    ensures { IfSome result (λ request. Reads (codes "inspect") (rows_of (found_of matches.now)) request) }
+fn inspect_in<'a>(
+    alloc: Global,
+    matches: &ArgMatches<'a>,
+) -> Result<Option<Request<'a>>, AllocError>
+    ensures { IfOk result (λ found. IfSome found (λ request. Reads (codes "inspect") (rows_of (found_of matches.now)) request)) }
 {
-    let meta = matches.get_str(META)?;
-    Some(Request::Inspect(Inspected {
+    let Some(meta) = matches.get_str(META) else {
+        return Ok(None);
+    };
+    let resources = texts_in(alloc, matches, RESOURCE)?;
+    Ok(Some(Request::Inspect(Inspected {
         base: matches.get_str(BASE),
         meta,
         profile: matches.get_str(PROFILE),
+        resources,
         json: has_flag(matches, JSON),
         explain: has_flag(matches, EXPLAINED),
-    }))
+    })))
 }
 
 fn draft_in<'a>(alloc: Global, matches: &ArgMatches<'a>) -> Result<Request<'a>, AllocError>
@@ -127,7 +144,7 @@ fn draft_in<'a>(alloc: Global, matches: &ArgMatches<'a>) -> Result<Request<'a>, 
 {
     Ok(Request::Draft(DraftedFiles {
         base: matches.get_str(BASE),
-        files: files_in(alloc, matches)?,
+        files: texts_in(alloc, matches, FILE)?,
         profile: matches.get_str(PROFILE),
     }))
 }
@@ -154,31 +171,40 @@ fn split_in<'a>(alloc: Global, matches: &ArgMatches<'a>) -> Result<Option<Reques
     let Some(parts) = matches.get_str(PARTS) else {
         return Ok(None);
     };
+    let files = texts_in(alloc, matches, FILE)?;
+    let resources = texts_in(alloc, matches, RESOURCE)?;
     Ok(Some(Request::Split(SplitFiles {
         base,
         meta,
-        files: files_in(alloc, matches)?,
+        files,
         profile: matches.get_str(PROFILE),
+        resources,
         parts: count_of(parts),
     })))
 }
 
-fn keys_in<'a>(matches: &ArgMatches<'a>) -> Option<Request<'a>>
-    ensures { IfSome result (λ request. Reads (codes "keys") (rows_of (found_of matches.now)) request) }
+fn keys_in<'a>(alloc: Global, matches: &ArgMatches<'a>) -> Result<Option<Request<'a>>, AllocError>
+    ensures { IfOk result (λ found. IfSome found (λ request. Reads (codes "keys") (rows_of (found_of matches.now)) request)) }
 {
-    let base = matches.get_str(BASE)?;
-    let meta = matches.get_str(META)?;
-    Some(Request::Keys(JudgedKeys {
+    let Some(base) = matches.get_str(BASE) else {
+        return Ok(None);
+    };
+    let Some(meta) = matches.get_str(META) else {
+        return Ok(None);
+    };
+    let resources = texts_in(alloc, matches, RESOURCE)?;
+    Ok(Some(Request::Keys(JudgedKeys {
         base,
         meta,
         profile: matches.get_str(PROFILE),
-    }))
+        resources,
+    })))
 }
 
 fn report_in<'a>(alloc: Global, matches: &ArgMatches<'a>) -> Result<Request<'a>, AllocError>
     ensures { IfOk result (λ request. Reads (codes "report") (rows_of (found_of matches.now)) request) }
 {
-    Ok(Request::Report(files_in(alloc, matches)?))
+    Ok(Request::Report(texts_in(alloc, matches, FILE)?))
 }
 
 fn completions_in<'a>(matches: &ArgMatches<'a>) -> Option<Request<'a>>
@@ -230,7 +256,7 @@ pub(crate) fn request_of<'a>(
         return check_in(alloc, matches);
     }
     if name == INSPECT {
-        return Ok(inspect_in(matches));
+        return inspect_in(alloc, matches);
     }
     if name == DRAFT {
         return Ok(Some(draft_in(alloc, matches)?));
@@ -239,7 +265,7 @@ pub(crate) fn request_of<'a>(
         return split_in(alloc, matches);
     }
     if name == KEYS {
-        return Ok(keys_in(matches));
+        return keys_in(alloc, matches);
     }
     if name == REPORT {
         return Ok(Some(report_in(alloc, matches)?));

@@ -1,10 +1,11 @@
 //! Mistakes that clap accepts: standard input for two files, and values of options that there are not.
 ghost use Rattle.std.specs.Prelude.{◌≡◌, MatchOption, false, true};
-ghost use Rattle.csvw_command_core.specs.Mistakes.{IsMistaken, IsSound, has_known_profile, is_color, is_profile, is_report_form, is_shell, is_shown_form};
+ghost use Rattle.csvw_command_core.specs.Mistakes.{IsMistaken, IsSound, has_known_profile, has_known_resources, is_color, is_profile, is_report_form, is_shell, is_shown_form};
 ghost use Rattle.csvw_command_core.specs.Mistakes.{knows_color, knows_names, knows_output, knows_profile, knows_report, knows_report_form, knows_shown};
 ghost use Rattle.csvw_command_core.specs.Mistakes.{knows_shown_form};
 
 use crate::request::{Reporting, Request};
+use crate::resources::wrong_resources;
 use crate::standard_input::reads_twice;
 
 /// What is told of a command line that names standard input twice.
@@ -142,6 +143,28 @@ fn has_known_profile(request: &Request<'_>) -> bool
     }
 }
 
+/// Returns what is told of resources that the request has and can't have, or `None` if there are none.
+fn unknown_resource(request: &Request<'_>) -> Option<&'static str>
+    ensures { MatchOption result (has_known_resources request.now ≡ true) (λ _. has_known_resources request.now ≡ false) }
+{
+    match request {
+        Request::Validate(group) => wrong_resources(group.resources.as_slice(), group.profile),
+        Request::Convert { group, .. } => {
+            wrong_resources(group.resources.as_slice(), group.profile)
+        }
+        Request::Check(asked) => wrong_resources(asked.resources.as_slice(), asked.profile),
+        Request::Inspect(asked) => wrong_resources(asked.resources.as_slice(), asked.profile),
+        Request::Split(asked) => wrong_resources(asked.resources.as_slice(), asked.profile),
+        Request::Keys(asked) => wrong_resources(asked.resources.as_slice(), asked.profile),
+        Request::Plain { .. }
+        | Request::Explain(_)
+        | Request::Draft(_)
+        | Request::Report(_)
+        | Request::Completions(_)
+        | Request::Manual => None,
+    }
+}
+
 /// Returns what is told of a name of the request that there is not, or `None` if all are known.
 fn unknown_name(request: &Request<'_>) -> Option<&'static str>
     ensures { MatchOption result (knows_names request.now ≡ true) (λ _. knows_names request.now ≡ false) }
@@ -149,13 +172,17 @@ fn unknown_name(request: &Request<'_>) -> Option<&'static str>
     if !has_known_profile(request) {
         return Some(PROFILE);
     }
+    if let Some(told) = unknown_resource(request) {
+        return Some(told);
+    }
     unknown_output(request)
 }
 
 /// Returns what is told of a request that is a mistake, or `None` if it is none.
 ///
 /// A request is a mistake if it names standard input for two files, or a form of reports, a colour, a profile or a shell
-/// that there is not.
+/// that there is not. So is one with a resource that isn't `URL=FILE`, or whose file is standard input. Resources without
+/// the profile `w3c` are a mistake too.
 pub fn mistake_in(request: &Request<'_>) -> Option<&'static str>
     ensures { MatchOption result (IsSound request.now) (λ _. IsMistaken request.now) }
 {

@@ -32,6 +32,8 @@ pub struct Group<'a> {
     pub files: Vec<&'a str>,
     /// The name of the profile of the document, if one is given.
     pub profile: Option<&'a str>,
+    /// The resources, each as `URL=FILE`, in the order of the words. There may be none.
+    pub resources: Vec<&'a str>,
     /// Whether a piece of each file is read in turn. Else the files are read one after the other.
     pub turns: bool,
     /// How the report is shown.
@@ -59,6 +61,8 @@ pub struct CheckedGroup<'a> {
     pub files: Vec<&'a str>,
     /// The name of the profile of the document, if one is given.
     pub profile: Option<&'a str>,
+    /// The resources, each as `URL=FILE`, in the order of the words. There may be none.
+    pub resources: Vec<&'a str>,
     /// How the report is shown.
     pub reporting: Reporting<'a>,
     /// Whether the progress is shown at a terminal.
@@ -66,7 +70,7 @@ pub struct CheckedGroup<'a> {
 }
 
 /// A metadata document to show.
-#[derive(Clone, Copy)]
+#[derive(Drop)]
 pub struct Inspected<'a> {
     /// The URL of the document, if it is given.
     pub base: Option<&'a str>,
@@ -74,6 +78,8 @@ pub struct Inspected<'a> {
     pub meta: &'a str,
     /// The name of its profile, if one is given.
     pub profile: Option<&'a str>,
+    /// The resources, each as `URL=FILE`, in the order of the words. There may be none.
+    pub resources: Vec<&'a str>,
     /// Whether it is shown as JSON. Else it is shown as text.
     pub json: bool,
     /// Whether a stop is explained.
@@ -102,12 +108,14 @@ pub struct SplitFiles<'a> {
     pub files: Vec<&'a str>,
     /// The name of the profile of the document, if one is given.
     pub profile: Option<&'a str>,
+    /// The resources, each as `URL=FILE`, in the order of the words. There may be none.
+    pub resources: Vec<&'a str>,
     /// How many parts there are at most. It is 0 if the word is no number from 1 to 4294967295.
     pub parts: u32,
 }
 
 /// A group whose keys are judged by the records of its parts.
-#[derive(Clone, Copy)]
+#[derive(Drop)]
 pub struct JudgedKeys<'a> {
     /// The URL of the metadata document.
     pub base: &'a str,
@@ -115,6 +123,8 @@ pub struct JudgedKeys<'a> {
     pub meta: &'a str,
     /// The name of the profile of the document, if one is given.
     pub profile: Option<&'a str>,
+    /// The resources, each as `URL=FILE`, in the order of the words. There may be none.
+    pub resources: Vec<&'a str>,
 }
 
 /// A request: what the command line asks the program to do.

@@ -5,7 +5,7 @@ ghost use Rattle.csvw_command_core.specs.StandardInput.{inputs_of, is_standard, 
 use crate::request::Request;
 use csvw_opener::STANDARD_INPUT;
 
-fn is_standard(file: &str) -> bool
+pub(crate) fn is_standard(file: &str) -> bool
     ensures { result ≡ is_standard file.now }
 {
     file == STANDARD_INPUT

@@ -10,7 +10,7 @@ ghost use Rattle.std.specs.Prelude.{◌≡◌, IfOk, false};
 use crate::arguments::{
     ALL, BASE, COLOR, EXPLAINED, FILE, JSON, KEYS, LINE_BUFFERED, META, MINIMAL, PART, PLAN,
     PROFILE, PROGRESS, REPORT, SHELL, STRICT, TURNS, URL, base, code, files, flag, option, parts,
-    required_word, some_files,
+    required_word, resource, some_files,
 };
 use crate::{after_help, argument_help};
 use clap::Command;
@@ -88,6 +88,7 @@ fn group_command<'a>(
         flag(alloc, EXPLAINED, argument_help::EXPLAINED),
         flag(alloc, PROGRESS, argument_help::PROGRESS),
         option(alloc, PROFILE, "core|w3c", argument_help::PROFILE),
+        resource(alloc),
         option(alloc, PART, "K", argument_help::PART),
         option(alloc, PLAN, "PLAN", argument_help::PLAN),
         option(alloc, KEYS, "KEYS", argument_help::KEYS),
@@ -149,6 +150,7 @@ fn check_command<'a>(alloc: Global) -> Result<Command<'a>, AllocError>
         some_files(alloc),
         flag(alloc, PROGRESS, argument_help::PROGRESS),
         option(alloc, PROFILE, "core|w3c", argument_help::PROFILE),
+        resource(alloc),
     ]?;
     let command = Command::new(alloc, CHECK)
         .about(
@@ -183,7 +185,8 @@ fn inspect_command<'a>(alloc: Global) -> Result<Command<'a>, AllocError>
     Command::new(alloc, INSPECT)
         .about("Shows what a metadata document says, with the defaults that apply")
         .after_help(after_help::INSPECT)
-        .args(args)
+        .args(args)?
+        .arg(resource(alloc))
 }
 
 fn draft_command<'a>(alloc: Global) -> Result<Command<'a>, AllocError>
@@ -211,6 +214,7 @@ fn split_command<'a>(alloc: Global) -> Result<Command<'a>, AllocError>
         required_word(alloc, META, argument_help::META),
         files(alloc, argument_help::FILES),
         option(alloc, PROFILE, "core|w3c", argument_help::PROFILE),
+        resource(alloc),
     ]?;
     Command::new(alloc, SPLIT)
         .about(
@@ -228,6 +232,7 @@ fn keys_command<'a>(alloc: Global) -> Result<Command<'a>, AllocError>
         base(alloc),
         required_word(alloc, META, argument_help::META),
         option(alloc, PROFILE, "core|w3c", argument_help::PROFILE),
+        resource(alloc),
     ]?;
     Command::new(alloc, KEYS)
         .about("Judges the keys of a group by the sorted records that its parts wrote")

@@ -345,7 +345,7 @@ Section: Metadata Vocabulary, section 5.5.2.
 
 ## TooLong (fault of a document)
 
-The document has more than 1,048,576 bytes, or a template has more than 4,096 bytes or more than 32 `{`.
+The document or a resource has more than 1,048,576 bytes, or a template has more than 4,096 bytes or more than 32 `{`.
 
 Example:
 
@@ -358,7 +358,7 @@ Section: a limit of this program.
 
 ## NotJson (fault of a document)
 
-The document is no JSON text in UTF-8, or nests deeper than 127 levels.
+The document or a resource is no JSON text in UTF-8, or nests deeper than 127 levels.
 
 Example:
 
@@ -371,7 +371,7 @@ Section: RFC 8259.
 
 ## BadContext (fault of a document)
 
-`@context` is missing, or is not that of CSVW.
+`@context` is missing, or is not that of CSVW. That of a resource may be missing.
 
 Example:
 
@@ -384,7 +384,7 @@ Section: Metadata Vocabulary, section 5.2.
 
 ## BadProperty (fault of a document)
 
-A value is of a wrong kind, is empty or below its range, or a property that is needed is missing.
+A value is of a wrong kind, is empty or below its range, or a property that is needed is missing. A resource that is no object has this code, too.
 
 Example:
 
@@ -436,14 +436,14 @@ Section: a limit of this program.
 
 ## NotSupported (fault of a document)
 
-A part of the vocabulary that this program does not support: a datatype as `duration`, a `format` of strings in the profile core, a schema or a dialect by its URL, a number with a fraction.
+A part of the vocabulary that this program does not support, or not in the profile core: a datatype as `duration`, a `format` of strings, `rowTitles`, a schema or a dialect by its URL, a number with a fraction.
 
 Example:
 
     metadata.json: {"@context":"http://www.w3.org/ns/csvw","url":"t.csv","tableSchema":{"columns":[{"name":"n","datatype":"duration"}]}}
     t.csv: n\n1\n
 
-Instead: Leave it out, or write what is supported: `--profile w3c` for `number` and regular expressions, `string` for `duration`, `"minimum": "0.5"` for 0.5, the schema itself for its URL.
+Instead: Leave it out, or write what is supported: `--profile w3c` for more datatypes, regular expressions and `rowTitles`, with `--resource URL=FILE` for a schema or a dialect by its URL, `"minimum": "0.5"` for 0.5.
 
 Section: Metadata Vocabulary, section 5. Model for Tabular Data, section 6.4.6.
 
@@ -554,7 +554,7 @@ Section: Metadata Vocabulary, section 5.4.
 
 ## BadReference (fault of a document)
 
-A key names a column or a table that does not exist, or its sides have different numbers of columns.
+A key or `rowTitles` names a column or a table that does not exist, or the sides of a key have different numbers of columns.
 
 Example:
 

@@ -1,7 +1,7 @@
 //! What a command takes, as far as help shows it.
 
 use clap::builder::{PossibleValue, ValueParser};
-use clap::{Arg, Command};
+use clap::{Arg, ArgAction, Command};
 use std::alloc::{AllocError, Global};
 
 /// Whether help shows an argument. The flags for help and for the version are shown in any case, so they are left out here.
@@ -17,6 +17,11 @@ pub(crate) fn is_own(command: &Command<'_>) -> bool {
 /// Whether an option has a value after it.
 pub(crate) fn takes_value(arg: &Arg<'_>) -> bool {
     arg.get_action().takes_values()
+}
+
+/// Whether an option may be given several times.
+pub(crate) fn is_repeated(arg: &Arg<'_>) -> bool {
+    matches!(arg.get_action(), ArgAction::Append)
 }
 
 /// Whether an argument can have several values.

@@ -1,6 +1,6 @@
 //! The completions for zsh.
 
-use crate::arguments::{is_own, is_shown, takes_several, takes_value};
+use crate::arguments::{is_own, is_repeated, is_shown, takes_several, takes_value};
 use crate::script::Script;
 use clap::{Arg, Command};
 
@@ -65,6 +65,7 @@ fn add_option(script: Script, long: &str, arg: &Arg<'_>) -> Script {
 /// Adds an argument. A value that isn't an option's is completed as a file.
 fn add_argument(script: Script, arg: &Arg<'_>) -> Script {
     match arg.get_long() {
+        Some(long) if is_repeated(arg) => add_option(script.push("*"), long, arg),
         Some(long) => add_option(script, long, arg),
         None if takes_several(arg) => add_action(script.push("*"), arg, "_files"),
         None => add_action(script, arg, "_files"),

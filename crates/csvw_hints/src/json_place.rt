@@ -144,6 +144,20 @@ fn offset_of(bytes: &[u8], pointer: &str) -> usize {
     found
 }
 
+/// Returns the text that a pointer names, as the bytes of the document spell it, or `None` if it names no text. Names with
+/// escapes aren't found.
+pub fn text_at<'a>(bytes: &'a [u8], pointer: &str) -> Option<&'a str> {
+    let mut scan = Scan { bytes, at: 0 };
+    for token in pointer.split('/').skip(1) {
+        scan.step(token)?;
+    }
+    scan.skip(&[]);
+    match scan.byte() {
+        Some(b'"') => str::from_utf8(scan.string()).ok(),
+        _ => None,
+    }
+}
+
 /// Returns the line and the column of what a pointer names, both from 1. A column counts characters.
 pub fn place_of(bytes: &[u8], pointer: &str) -> (usize, usize) {
     let offset = offset_of(bytes, pointer);

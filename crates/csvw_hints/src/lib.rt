@@ -2,7 +2,8 @@
 //!
 //! - `push_rule` writes the rule of a column or of a key, with its values. `push_other_format` writes the format in which the text
 //!   of a cell is a value, if it is none of its column's datatype.
-//! - `place_of` returns the line and the column of a value of a document, by its JSON Pointer.
+//! - `place_of` returns the line and the column of a value of a document, by its JSON Pointer. `text_at` returns
+//!   its text.
 //! - `Scan` walks through the bytes of a document, and `Lines` counts its lines.
 //! - `push_disguise` and `dialect_hint` say what a file is by its first bytes, if it can't be read as the table says.
 //!
@@ -30,7 +31,7 @@ mod rule;
 mod tables;
 
 pub use disguise::{dialect_hint, push_disguise};
-pub use json_place::{Lines, Scan, line_and_column, place_of};
+pub use json_place::{Lines, Scan, line_and_column, place_of, text_at};
 pub use other_format::push_other_format;
 pub use rule::push_rule;
 pub use tables::{Group, TableAt, Tables, field_of, name_of};

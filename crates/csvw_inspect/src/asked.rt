@@ -1,5 +1,6 @@
 //! What is asked of an inspection.
 
+use csvw_files::ResourceFile;
 use csvw_meta::Profile;
 
 /// The form in which a document is shown.
@@ -18,6 +19,8 @@ pub struct Inspect<'a> {
     pub base: &'a str,
     /// The path of the document.
     pub meta: &'a str,
+    /// The files of the schemas and dialects that the document names by their URLs. There may be none.
+    pub resources: &'a [ResourceFile<'a>],
     /// The features that the document may use.
     pub profile: Profile,
     /// The form in which it is shown.

@@ -8,7 +8,7 @@ use crate::json::json_of;
 use crate::text::lines_of;
 use csvw_columns::Plan;
 use csvw_engine_core::Stop;
-use csvw_files::{Opener, read_document};
+use csvw_files::{Opener, bundle_files, read_file};
 use csvw_meta::{Description, MetaCode, MetaFault, Profile, ReadDescription};
 use csvw_streams::{Counted, write_out};
 use std::alloc::{AllocError, Global};
@@ -16,7 +16,7 @@ use std::io::Write;
 
 /// Writes what a metadata document says to `out`.
 ///
-/// Returns `Read` if the document can't be read, `Meta` if it has a fault, `Write` if `out` failed, and `Memory` if memory
+/// Returns `Read` if the document or a resource can't be read, `Meta` if one has a fault, `Write` if `out` failed, and `Memory` if memory
 /// ran out. Nothing is written then, unless `out` failed.
 pub fn inspect<O: Opener, W: Write>(
     alloc: Global,
@@ -46,7 +46,8 @@ fn send<W: Write>(out: &mut Counted<W>, bytes: &[u8]) -> Result<(), Stop>
 
 /// Returns the text of a document.
 fn text_of<O: Opener>(alloc: Global, asked: &Inspect<'_>, opener: &mut O) -> Result<String, Stop> {
-    let bytes = bytes_of(alloc, asked.meta, opener)?;
+    let own = read_file(alloc, asked.meta, opener)?;
+    let bytes = bundle_files(alloc, own, asked.base, asked.resources, opener)?;
     match plan_of(alloc, bytes.as_slice(), asked.base, asked.profile) {
         Ok(plan) => Ok(shown(alloc, asked, bytes.as_slice(), &plan)?),
         Err(fault) => Err(match fault.code {
@@ -67,17 +68,6 @@ fn shown(
         InspectForm::Text => lines_of(alloc, asked, bytes, plan),
         InspectForm::Json => json_of(alloc, asked, bytes, plan),
     }
-}
-
-/// Opens and reads a document.
-fn bytes_of<O: Opener>(alloc: Global, path: &str, opener: &mut O) -> Result<Vec<u8>, Stop> {
-    let Some(reader) = opener.open(path) else {
-        return Err(Stop::Read);
-    };
-    let mut reader = Counted::new(reader);
-    let read = read_document(alloc, &mut reader);
-    opener.close(reader);
-    read
 }
 
 /// Reads a document in a profile, and plans its tables.

@@ -5,6 +5,7 @@
 //! let asked = Inspect {
 //!     base: "http://example.org/t.json",
 //!     meta: "t.json",
+//!     resources: &[],
 //!     profile: Profile::Core,
 //!     form: InspectForm::Text,
 //! };
@@ -14,7 +15,7 @@
 //! # Promises
 //!
 //! - `inspect` writes the whole text or nothing, unless the writer fails (`Inspects`).
-//! - If the document can't be read, or has a fault, `inspect` returns the stop and writes nothing (`Inspects`).
+//! - If the document or a resource can't be read, or has a fault, `inspect` returns the stop and writes nothing (`Inspects`).
 //! - Only tests check the text.
 #![tactic(auto)]
 
@@ -32,4 +33,5 @@ mod text;
 mod value;
 
 pub use asked::{Inspect, InspectForm};
+pub use csvw_files::ResourceFile;
 pub use inspecting::inspect;

@@ -15,15 +15,27 @@ pub(crate) fn table_properties(plan: &TablePlan) -> [Property<'_>; 5] {
     ]
 }
 
-/// Returns the primary key of a table.
-pub(crate) fn key_properties(plan: &TablePlan) -> [Property<'_>; 1] {
+/// Returns the columns whose values are titles of their rows, if there are some.
+fn row_titles(plan: &TablePlan) -> Property<'_> {
+    let columns = plan.declared.as_slice();
+    let shown = if columns.iter().any(|column| column.is_row_title) {
+        Shown::RowTitles(columns)
+    } else {
+        Shown::Nothing
+    };
+    given("rowTitles", shown)
+}
+
+/// Returns the primary key and the row titles of a table.
+pub(crate) fn key_properties(plan: &TablePlan) -> [Property<'_>; 2] {
     let key = plan.primary_key.as_slice();
     let names = Shown::Names(plan.declared.as_slice(), key);
-    [if key.is_empty() {
+    let primary_key = if key.is_empty() {
         default("primaryKey", names)
     } else {
         given("primaryKey", names)
-    }]
+    };
+    [primary_key, row_titles(plan)]
 }
 
 /// Returns the columns of a foreign key, and the table and the columns that it refers to.

@@ -32,6 +32,8 @@ pub(crate) enum Shown<'a> {
     Words(&'static [&'static str]),
     /// The names of the columns that have these numbers, from 1.
     Names(&'a [Column], &'a [u32]),
+    /// The names of those of these columns whose values are titles of their rows.
+    RowTitles(&'a [Column]),
     /// A table, and the numbers of those of its columns that a foreign key refers to.
     Reference(&'a TablePlan, &'a [u32]),
     /// The text of a template.
@@ -83,6 +85,17 @@ fn names(alloc: Global, columns: &[Column], numbers: &[u32]) -> Result<Value, Al
     Ok(Value::Array(names))
 }
 
+/// Returns the names of the columns whose values are titles of their rows.
+fn row_titles(alloc: Global, columns: &[Column]) -> Result<Value, AllocError> {
+    let mut names = Vec::new(alloc);
+    for column in columns {
+        if column.is_row_title {
+            names.push(Value::try_from_str(alloc, column.name.as_str())?)?;
+        }
+    }
+    Ok(Value::Array(names))
+}
+
 /// Returns what a foreign key refers to: a table, and the names of its columns that have these numbers.
 fn reference(alloc: Global, table: &TablePlan, numbers: &[u32]) -> Result<Value, AllocError> {
     let columns = names(alloc, table.declared.as_slice(), numbers)?;
@@ -101,6 +114,7 @@ pub(crate) fn value_of(alloc: Global, shown: Shown<'_>) -> Result<Value, AllocEr
         Shown::Texts(list) => texts(alloc, list),
         Shown::Words(list) => words(alloc, list),
         Shown::Names(columns, numbers) => names(alloc, columns, numbers),
+        Shown::RowTitles(columns) => row_titles(alloc, columns),
         Shown::Reference(table, numbers) => reference(alloc, table, numbers),
         Shown::Template(template) => Ok(Value::String(template_text(alloc, template)?)),
         Shown::Link(link) => link_value(alloc, link),

@@ -152,7 +152,7 @@ pub(crate) fn push_unplaced(page: &mut String, meta: &str, times: u64) -> Result
     push_name(page, "warning", "UnknownProperty")?;
     write!(
         page,
-        "{times} more, whose names have escapes</p>\n</article>\n"
+        "{times} more, in a resource or with escapes in their names</p>\n</article>\n"
     )
 }
 

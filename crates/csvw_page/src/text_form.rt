@@ -219,7 +219,10 @@ pub(crate) fn push_unplaced(
 ) -> Result<(), AllocError> {
     push_text(lines, meta)?;
     push_ignored(lines, color)?;
-    write!(lines, ": {times} more, whose names have escapes\n")
+    write!(
+        lines,
+        ": {times} more, in a resource or with escapes in their names\n"
+    )
 }
 
 /// Adds why the document or a table wasn't read: the place, the name of the stop, what to do, and what else helps.

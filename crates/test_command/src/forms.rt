@@ -281,6 +281,7 @@ fn is_checked(alloc: Global, case: &Case) -> bool {
         base: "http://example.org/",
         meta: "m.json",
         files: &["p.csv"],
+        resources: &[],
         profile: Profile::Core,
         shown: Shown::First,
         form: case.form,

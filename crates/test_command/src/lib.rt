@@ -31,6 +31,8 @@ mod profiles;
 #[cfg(test)]
 mod reports;
 #[cfg(test)]
+mod resources;
+#[cfg(test)]
 mod runs;
 #[cfg(test)]
 mod splits;

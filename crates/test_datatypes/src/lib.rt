@@ -37,6 +37,8 @@ mod refusals;
 #[cfg(test)]
 mod roles;
 #[cfg(test)]
+mod row_titles;
+#[cfg(test)]
 mod spaced_moments;
 #[cfg(test)]
 mod tree_ops;

@@ -1,10 +1,10 @@
 //! The example of csv2rdf with four tables that refer to one another (section 7.4): organizations, professions, and the
 //! senior and junior roles of a public body.
 //!
-//! In the Recommendation each schema is a file of its own, and foreign keys refer to schemas. Neither is supported. Here
-//! each schema is in its table, without its own context, and foreign keys refer to the URLs of tables. In standard mode
-//! the triple that describes a senior post is there twice, before and after the person.
-use crate::examples::writes;
+//! As in the Recommendation, each schema is a file of its own. There foreign keys refer to schemas, which isn't supported:
+//! here they refer to the URLs of tables. In standard mode the triple that describes a senior post is there twice, before
+//! and after the person.
+use crate::examples::writes_with;
 use csvw_triples_core::Mode;
 use std::test::Fail;
 
@@ -13,97 +13,121 @@ static META: &str = r#"{
   "@context": "http://www.w3.org/ns/csvw",
   "tables": [{
     "url": "http://example.org/gov.uk/data/organizations.csv",
-    "suppressOutput": true,
-    "tableSchema": {
-      "@id": "http://example.org/gov.uk/schema/organizations.json",
-      "columns": [
-        {"name": "ref", "titles": "Organization Unique Reference", "datatype": "string", "required": true,
-          "propertyUrl": "dc:identifier"},
-        {"name": "name", "titles": "Organization Name", "datatype": "string", "propertyUrl": "foaf:name"},
-        {"name": "department", "titles": "Department Reference", "datatype": "string", "null": "xx",
-          "propertyUrl": "org:subOrganizationOf", "valueUrl": "http://example.org/organization/{department}"}
-      ],
-      "primaryKey": "ref",
-      "aboutUrl": "http://example.org/organization/{ref}",
-      "foreignKeys": [
-        {"columnReference": "department",
-          "reference": {"resource": "http://example.org/gov.uk/data/organizations.csv", "columnReference": "ref"}}
-      ]
-    }
+    "tableSchema": "http://example.org/gov.uk/schema/organizations.json",
+    "suppressOutput": true
   }, {
     "url": "http://example.org/gov.uk/data/professions.csv",
-    "suppressOutput": true,
-    "tableSchema": {
-      "@id": "http://example.org/gov.uk/schema/professions.json",
-      "columns": [{"name": "name", "titles": "Profession", "datatype": "string", "required": true}],
-      "primaryKey": "name"
-    }
+    "tableSchema": "http://example.org/gov.uk/schema/professions.json",
+    "suppressOutput": true
   }, {
     "url": "http://example.org/senior-roles.csv",
-    "tableSchema": {
-      "@id": "http://example.org/gov.uk/schema/senior-roles.json",
-      "columns": [
-        {"name": "ref", "titles": "Post Unique Reference", "datatype": "string", "required": true,
-          "propertyUrl": "dc:identifier"},
-        {"name": "name", "titles": "Name", "datatype": "string",
-          "aboutUrl": "http://example.org/person/{_row}", "propertyUrl": "foaf:name"},
-        {"name": "grade", "titles": "Grade", "datatype": "string",
-          "propertyUrl": "http://example.org/gov.uk/def/grade"},
-        {"name": "job", "titles": "Job Title", "datatype": "string",
-          "propertyUrl": "http://example.org/gov.uk/def/job"},
-        {"name": "reportsTo", "titles": "Reports to Senior Post", "datatype": "string", "null": "xx",
-          "propertyUrl": "org:reportsTo", "valueUrl": "http://example.org/post/{reportsTo}"},
-        {"name": "profession", "titles": "Profession", "datatype": "string",
-          "propertyUrl": "http://example.org/gov.uk/def/profession"},
-        {"name": "organizationRef", "titles": "Organization Reference", "datatype": "string", "required": true,
-          "propertyUrl": "org:postIn", "valueUrl": "http://example.org/organization/{organizationRef}"},
-        {"name": "post_holder", "virtual": true,
-          "propertyUrl": "org:heldBy", "valueUrl": "http://example.org/person/{_row}"}
-      ],
-      "primaryKey": "ref",
-      "aboutUrl": "http://example.org/post/{ref}",
-      "foreignKeys": [
-        {"columnReference": "reportsTo",
-          "reference": {"resource": "http://example.org/senior-roles.csv", "columnReference": "ref"}},
-        {"columnReference": "profession",
-          "reference": {"resource": "http://example.org/gov.uk/data/professions.csv", "columnReference": "name"}},
-        {"columnReference": "organizationRef",
-          "reference": {"resource": "http://example.org/gov.uk/data/organizations.csv", "columnReference": "ref"}}
-      ]
-    }
+    "tableSchema": "http://example.org/gov.uk/schema/senior-roles.json"
   }, {
     "url": "http://example.org/junior-roles.csv",
-    "tableSchema": {
-      "@id": "http://example.org/gov.uk/schema/junior-roles.json",
-      "columns": [
-        {"name": "reportsToSenior", "titles": "Reporting Senior Post", "datatype": "string", "required": true,
-          "propertyUrl": "org:reportsTo", "valueUrl": "http://example.org/post/{reportsToSenior}"},
-        {"name": "grade", "titles": "Grade", "datatype": "string",
-          "propertyUrl": "http://example.org/gov.uk/def/grade"},
-        {"name": "min_pay", "titles": "Payscale Minimum (£)", "datatype": "integer",
-          "propertyUrl": "http://example.org/gov.uk/def/min_pay"},
-        {"name": "max_pay", "titles": "Payscale Maximum (£)", "datatype": "integer",
-          "propertyUrl": "http://example.org/gov.uk/def/max_pay"},
-        {"name": "job", "titles": "Generic Job Title", "datatype": "string",
-          "propertyUrl": "http://example.org/gov.uk/def/job"},
-        {"name": "number", "titles": "Number of Posts (FTE)", "datatype": "number",
-          "propertyUrl": "http://example.org/gov.uk/def/number_of_posts"},
-        {"name": "profession", "titles": "Profession", "datatype": "string",
-          "propertyUrl": "http://example.org/gov.uk/def/profession"},
-        {"name": "organizationRef", "titles": "Organization Reference", "datatype": "string", "required": true,
-          "propertyUrl": "org:postIn", "valueUrl": "http://example.org/organization/{organizationRef}"}
-      ],
-      "foreignKeys": [
-        {"columnReference": "reportsToSenior",
-          "reference": {"resource": "http://example.org/senior-roles.csv", "columnReference": "ref"}},
-        {"columnReference": "profession",
-          "reference": {"resource": "http://example.org/gov.uk/data/professions.csv", "columnReference": "name"}},
-        {"columnReference": "organizationRef",
-          "reference": {"resource": "http://example.org/gov.uk/data/organizations.csv", "columnReference": "ref"}}
-      ]
-    }
+    "tableSchema": "http://example.org/gov.uk/schema/junior-roles.json"
   }]
 }"#;
+
+/// The files of the schemas, by their URLs.
+static SCHEMAS: [(&str, &str); 4] = [
+    (
+        "http://example.org/gov.uk/schema/organizations.json",
+        r#"{
+  "@context": "http://www.w3.org/ns/csvw",
+  "@id": "http://example.org/gov.uk/schema/organizations.json",
+  "columns": [
+    {"name": "ref", "titles": "Organization Unique Reference", "datatype": "string", "required": true,
+      "propertyUrl": "dc:identifier"},
+    {"name": "name", "titles": "Organization Name", "datatype": "string", "propertyUrl": "foaf:name"},
+    {"name": "department", "titles": "Department Reference", "datatype": "string", "null": "xx",
+      "propertyUrl": "org:subOrganizationOf", "valueUrl": "http://example.org/organization/{department}"}
+  ],
+  "primaryKey": "ref",
+  "aboutUrl": "http://example.org/organization/{ref}",
+  "foreignKeys": [
+    {"columnReference": "department",
+      "reference": {"resource": "http://example.org/gov.uk/data/organizations.csv", "columnReference": "ref"}}
+  ]
+}"#,
+    ),
+    (
+        "http://example.org/gov.uk/schema/professions.json",
+        r#"{
+  "@context": "http://www.w3.org/ns/csvw",
+  "@id": "http://example.org/gov.uk/schema/professions.json",
+  "columns": [{"name": "name", "titles": "Profession", "datatype": "string", "required": true}],
+  "primaryKey": "name"
+}"#,
+    ),
+    (
+        "http://example.org/gov.uk/schema/senior-roles.json",
+        r#"{
+  "@context": "http://www.w3.org/ns/csvw",
+  "@id": "http://example.org/gov.uk/schema/senior-roles.json",
+  "columns": [
+    {"name": "ref", "titles": "Post Unique Reference", "datatype": "string", "required": true,
+      "propertyUrl": "dc:identifier"},
+    {"name": "name", "titles": "Name", "datatype": "string",
+      "aboutUrl": "http://example.org/person/{_row}", "propertyUrl": "foaf:name"},
+    {"name": "grade", "titles": "Grade", "datatype": "string",
+      "propertyUrl": "http://example.org/gov.uk/def/grade"},
+    {"name": "job", "titles": "Job Title", "datatype": "string",
+      "propertyUrl": "http://example.org/gov.uk/def/job"},
+    {"name": "reportsTo", "titles": "Reports to Senior Post", "datatype": "string", "null": "xx",
+      "propertyUrl": "org:reportsTo", "valueUrl": "http://example.org/post/{reportsTo}"},
+    {"name": "profession", "titles": "Profession", "datatype": "string",
+      "propertyUrl": "http://example.org/gov.uk/def/profession"},
+    {"name": "organizationRef", "titles": "Organization Reference", "datatype": "string", "required": true,
+      "propertyUrl": "org:postIn", "valueUrl": "http://example.org/organization/{organizationRef}"},
+    {"name": "post_holder", "virtual": true,
+      "propertyUrl": "org:heldBy", "valueUrl": "http://example.org/person/{_row}"}
+  ],
+  "primaryKey": "ref",
+  "aboutUrl": "http://example.org/post/{ref}",
+  "foreignKeys": [
+    {"columnReference": "reportsTo",
+      "reference": {"resource": "http://example.org/senior-roles.csv", "columnReference": "ref"}},
+    {"columnReference": "profession",
+      "reference": {"resource": "http://example.org/gov.uk/data/professions.csv", "columnReference": "name"}},
+    {"columnReference": "organizationRef",
+      "reference": {"resource": "http://example.org/gov.uk/data/organizations.csv", "columnReference": "ref"}}
+  ]
+}"#,
+    ),
+    (
+        "http://example.org/gov.uk/schema/junior-roles.json",
+        r#"{
+  "@context": "http://www.w3.org/ns/csvw",
+  "@id": "http://example.org/gov.uk/schema/junior-roles.json",
+  "columns": [
+    {"name": "reportsToSenior", "titles": "Reporting Senior Post", "datatype": "string", "required": true,
+      "propertyUrl": "org:reportsTo", "valueUrl": "http://example.org/post/{reportsToSenior}"},
+    {"name": "grade", "titles": "Grade", "datatype": "string",
+      "propertyUrl": "http://example.org/gov.uk/def/grade"},
+    {"name": "min_pay", "titles": "Payscale Minimum (£)", "datatype": "integer",
+      "propertyUrl": "http://example.org/gov.uk/def/min_pay"},
+    {"name": "max_pay", "titles": "Payscale Maximum (£)", "datatype": "integer",
+      "propertyUrl": "http://example.org/gov.uk/def/max_pay"},
+    {"name": "job", "titles": "Generic Job Title", "datatype": "string",
+      "propertyUrl": "http://example.org/gov.uk/def/job"},
+    {"name": "number", "titles": "Number of Posts (FTE)", "datatype": "number",
+      "propertyUrl": "http://example.org/gov.uk/def/number_of_posts"},
+    {"name": "profession", "titles": "Profession", "datatype": "string",
+      "propertyUrl": "http://example.org/gov.uk/def/profession"},
+    {"name": "organizationRef", "titles": "Organization Reference", "datatype": "string", "required": true,
+      "propertyUrl": "org:postIn", "valueUrl": "http://example.org/organization/{organizationRef}"}
+  ],
+  "foreignKeys": [
+    {"columnReference": "reportsToSenior",
+      "reference": {"resource": "http://example.org/senior-roles.csv", "columnReference": "ref"}},
+    {"columnReference": "profession",
+      "reference": {"resource": "http://example.org/gov.uk/data/professions.csv", "columnReference": "name"}},
+    {"columnReference": "organizationRef",
+      "reference": {"resource": "http://example.org/gov.uk/data/organizations.csv", "columnReference": "ref"}}
+  ]
+}"#,
+    ),
+];
 
 static TEXTS: [&str; 4] = [
     // organizations
@@ -279,12 +303,20 @@ _:t4r2s <http://www.w3.org/ns/org#postIn> <http://example.org/organization/hefce
 
 #[test]
 fn roles_have_their_minimal_graph(rt: HostRuntime) -> Result<(), Fail> {
-    assert!(rt; writes(rt.alloc(), META, &TEXTS, Mode::Minimal, MINIMAL)?);
+    assert!(rt; writes_with(rt.alloc(), (META, &SCHEMAS), &TEXTS, Mode::Minimal, MINIMAL)?);
     Ok(())
 }
 
 #[test]
 fn roles_have_their_standard_graph(rt: HostRuntime) -> Result<(), Fail> {
-    assert!(rt; writes(rt.alloc(), META, &TEXTS, Mode::Standard, STANDARD)?);
+    assert!(rt;
+        writes_with(
+            rt.alloc(),
+            (META, &SCHEMAS),
+            &TEXTS,
+            Mode::Standard,
+            STANDARD
+        )?
+    );
     Ok(())
 }

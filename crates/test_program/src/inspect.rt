@@ -137,6 +137,7 @@ fn shown(
     let asked = Inspect {
         base: BASE,
         meta: "t.json",
+        resources: &[],
         profile,
         form,
     };
@@ -208,6 +209,7 @@ fn reports_a_file_and_a_writer_that_fail(rt: HostRuntime) -> Result<(), Fail> {
     let mut asked = Inspect {
         base: BASE,
         meta: "t.json",
+        resources: &[],
         profile: Profile::Core,
         form: InspectForm::Text,
     };

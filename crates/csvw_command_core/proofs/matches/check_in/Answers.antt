@@ -11,8 +11,9 @@ returns c =
       name_is = refl;
       base_is = sym (first_value-rows found (codes "base")) ∙ sym c.get_str-2.ensures;
       meta_is = sym (first_value-rows found (codes "META")) ∙ sym c.in-Some.ensures;
-      files_are = c.in_ok-files_in.ensures;
+      files_are = c.in_ok-files.ensures;
       profile_is = sym (first_value-rows found (codes "profile")) ∙ sym c.get_str-3.ensures;
+      resources_are = c.in_ok-resources.ensures;
       reporting_is = c.reporting_in.ensures;
       progress_is = c.has_flag.ensures;
     }

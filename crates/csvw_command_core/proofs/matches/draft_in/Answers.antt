@@ -8,6 +8,6 @@ pub returns : goal.returns
 returns c = record {
   name_is = refl;
   base_is = sym (first_value-rows (found_of c.args.matches.now) (codes "base")) ∙ sym c.get_str.ensures;
-  files_are = c.in_ok-files_in.ensures;
+  files_are = c.in_ok-texts_in.ensures;
   profile_is = sym (first_value-rows (found_of c.args.matches.now) (codes "profile")) ∙ sym c.get_str-2.ensures;
 }

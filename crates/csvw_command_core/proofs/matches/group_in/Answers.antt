@@ -14,6 +14,7 @@ returns-in-Some-get_strs c =
       files_are = sym (raw_values-rows found (codes "FILE")) ∙ sym c.in-Some-get_strs.ensures
           ∙ ap (λ (files : List (Bor (List ℕ))). Some (map (λ file. file.now) files)) (sym copied);
       profile_is = sym (first_value-rows found (codes "profile")) ∙ sym c.get_str-in-Some-get_strs.ensures;
+      resources_are = c.in_ok-resources.ensures;
       turns_is = c.has_flag.ensures;
       reporting_is = c.reporting_in.ensures;
       explain_is = c.has_flag-in-Some-get_strs.ensures;
