@@ -57,6 +57,14 @@ BOUNDS = """{"@context":"http://www.w3.org/ns/csvw","url":"b.csv","tableSchema":
 {"name":"share","datatype":{"base":"number","minimum":0,"maxExclusive":"1.5E3"}},
 {"name":"logs","separator":";","datatype":{"base":"double","minExclusive":"-INF","maxInclusive":"0.00000012"}}]}}"""
 
+LINKED = """{"@context":"http://www.w3.org/ns/csvw","url":"l.csv","tableSchema":"s.json","dialect":"d.json"}"""
+
+RESOURCES = "--profile w3c --resource http://example.org/s.json=linked/s.json --resource http://example.org/d.json=linked/d.json"
+
+SCHEMA = """{"@context":["http://www.w3.org/ns/csvw",{"@base":"http://example.org/x/"}],"@id":"s","rowTitles":["name"],"primaryKey":"id","columns":[
+{"name":"id","datatype":{"base":"integer","@id":"d"}},
+{"name":"name","lang":"en","separator":";"}]}"""
+
 OCTETS = """{"@context":"http://www.w3.org/ns/csvw","url":"o.csv","tableSchema":{"primaryKey":"took","columns":[
 {"name":"took","datatype":{"base":"duration","format":"P.*"}},
 {"name":"sums","separator":";","datatype":{"base":"hexBinary","minLength":2}},
@@ -84,6 +92,10 @@ FILES = {
     "formatted/f.csv": 'share,logs\n"12,345,678.5","1.234.567,000000000000000001E-300;INF;5%"\n1234.5,"1,5E"\n"100,000,000,000,000,000,000.5",\n',
     "bounds/meta.json": BOUNDS,
     "bounds/b.csv": f"share,logs\n1.{'12' * 30}E2,-1e300;-INF;1.2E-7\n-0.5,1\n1500,NaN\nINF,\n",
+    "linked/meta.json": LINKED,
+    "linked/s.json": SCHEMA,
+    "linked/d.json": '{"delimiter":"|","trim":true}',
+    "linked/l.csv": "id|name\n1|a;b\n2|\n01| c \nx|d\n",
     "octets/meta.json": OCTETS,
     "octets/o.csv": f"took,sums,data,name,note\nP1Y14M2DT3H61M5.{'10' * 4}S,{'0fb7' * 20};0f,{'T W F u ' * 16},{'iso' * 20}:code,\"a\t{'b  ' * 20}\nc\"\n"
                     "5 days,0fb,TR==,a:b:c,\n",
@@ -122,6 +134,9 @@ RUNS = [
     Run("bounds of numbers with an exponent", group("convert --minimal --profile w3c", "bounds", "b.csv")),
     Run("formats of numbers with an exponent", group("convert --minimal --profile w3c", "formatted", "f.csv")),
     Run("durations and octets", group("convert --minimal --profile w3c", "octets", "o.csv")),
+    Run("resources", group(f"convert {RESOURCES}", "linked", "l.csv")),
+    Run("resources, validate", group(f"validate {RESOURCES}", "linked", "l.csv")),
+    Run("a resource that can't be used", group("validate --profile w3c --resource http://example.org/s.json=linked/l.csv", "linked", "l.csv")),
     Run("a document that is refused", group("convert", "twice", "prices.csv", "prices.csv")),
     Run("too few files", group("convert", "rivers", "stations.csv")),
     Run("help", ["--help"]),
