@@ -1,4 +1,5 @@
--- The digits that a text begins with are digits, and the number of at most 9 digits is below 10^9.
+-- The digits that a text begins with are digits, and the number of at most 9 digits is below 10^9. Trimmed digits are digits. These
+-- need induction, which the search doesn't try.
 use Rattle.std.proofs.Common.{◌≡◌, ℕ, ◌+◌, ◌-◌, ◌*◌, ◌<◌, ◌≤◌, ◌^◌, ◌==◌, Bool, true, false, cond, List, [], ◌∷◌, ◌++◌, length, take, get_or, refl, ap, subst, ◌∙◌, arith, zero, suc}
 use Rattle.std.specs.Char.{is_ascii_digit, digit_value}
 use Rattle.std.specs.Int.{IsInRange}
@@ -9,7 +10,7 @@ use Rattle.std.proofs.lemmas.Bool.Decides.{nat_tests}
 use Rattle.std.proofs.lemmas.Str.{digit_value_digit}
 use Rattle.std.proofs.lemmas.Str.Parse.{IsNumeralModel, digits_value_short, digits_value-take-le, digit_at}
 use Rattle.std.proofs.lemmas.Int.Digits.{digits_value_more}
-use Rattle.csvw_duration.specs.Digits.{first_digits, with_first, trimmed}
+use Rattle.csvw_duration.specs.Digits.{IsFraction, first_digits, with_first, trimmed}
 
 value_below : (b : ℕ) → is_ascii_digit b ≡ true → digit_value b < 10
 value_below b e =
@@ -73,3 +74,31 @@ with_more d c (e ∷ es) = refl
 pub trimmed_other : (c : ℕ) (ds : List ℕ) → (c == 48) ≡ false → trimmed (ds ++ (c ∷ [])) ≡ ds ++ (c ∷ [])
 trimmed_other c [] h = rw h refl
 trimmed_other c (d ∷ ds) h = ap (λ l. with_first d l) (trimmed_other c ds h) ∙ with_more d c ds
+
+-- trimmed digits are digits, and no more of them
+kept_digit : (d : ℕ) (b : Bool) → digit_value d < 10 → AllDigits 10 (cond b [] (d ∷ []))
+kept_digit d true h = tt
+kept_digit d false h = (h, tt)
+
+kept_length : (d : ℕ) (b : Bool) → length (cond b [] (d ∷ [])) ≤ 1
+kept_length d true = omega arith
+kept_length d false = omega arith
+
+first_kept : (d : ℕ) (ds : List ℕ) → digit_value d < 10 → AllDigits 10 ds → AllDigits 10 (with_first d ds)
+first_kept d [] h k = kept_digit d (d == 48) h
+first_kept d (e ∷ es) h k = (h, k)
+
+first_length : (d : ℕ) (ds : List ℕ) → length (with_first d ds) ≤ 1 + length ds
+first_length d [] = omega (arith, kept_length d (d == 48))
+first_length d (e ∷ es) = omega arith
+
+trimmed_digits : (ds : List ℕ) → AllDigits 10 ds → AllDigits 10 (trimmed ds)
+trimmed_digits [] h = tt
+trimmed_digits (d ∷ ds) h = first_kept d (trimmed ds) h.0 (trimmed_digits ds h.1)
+
+trimmed_length : (ds : List ℕ) → length (trimmed ds) ≤ length ds
+trimmed_length [] = omega arith
+trimmed_length (d ∷ ds) = omega (arith, first_length d (trimmed ds), trimmed_length ds)
+
+pub trimmed_fraction : (ds : List ℕ) → IsFraction ds → IsFraction (trimmed ds)
+trimmed_fraction ds h = (trimmed_digits ds h.0, omega (arith, trimmed_length ds, h.1))

@@ -1,3 +1,4 @@
 mod DigitLemmas
 mod ReadAgain
 mod OneDuration
+mod CalendarLemmas

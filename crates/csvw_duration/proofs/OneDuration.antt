@@ -1,17 +1,18 @@
--- A canonical text whose years and days have at most 9 digits is its own canonical text. The check doesn't find it by itself: it
+-- A canonical text is its own canonical text. The check doesn't find it by itself: it
 -- takes the fields apart.
-use Rattle.std.proofs.Common.{◌≡◌, ℕ, ◌+◌, ◌*◌, ◌/◌, ◌%◌, ◌<◌, ◌≤◌, ◌^◌, ◌==◌, ◌&&◌, Bool, true, false, cond, Option, Some, None, IfSome, List, [], ◌∷◌, ◌++◌}
+use Rattle.std.proofs.Common.{◌≡◌, ℕ, ◌+◌, ◌*◌, ◌/◌, ◌%◌, ◌<◌, ◌≤◌, ◌^◌, ◌==◌, ◌&&◌, Bool, true, false, cond, Option, Some, None, IfSome, nat_lt, List, [], ◌∷◌, ◌++◌}
 use Rattle.std.proofs.Common.{length, drop, refl, ap, sym, subst, ◌∙◌, arith, append_assoc, append-nil}
 use Rattle.std.specs.Fmt.{decimal}
 use Rattle.std.specs.Str.Parse.{AllDigits}
+use Rattle.std.proofs.lemmas.Bool.{and_parts}
 use Rattle.std.proofs.lemmas.Bool.Decides.{nat_tests}
 use Rattle.std.proofs.lemmas.Option.{same_Some}
 use Rattle.csvw_duration.specs.declared.value.DurationKind.{DurationKind}
 use Rattle.csvw_duration.specs.declared.value.DurationKind.TheVariants as kinds
-use Rattle.csvw_duration.specs.Digits.{◌>>=◌, option_view, is_short, first_digits, digits_at, number_at, fraction_at, after_byte, at_end, with_first, trimmed}
+use Rattle.csvw_duration.specs.Digits.{◌>>=◌, is_short, first_digits, digits_at, number_at, fraction_at, after_byte, at_end, with_first, trimmed}
 use Rattle.csvw_duration.specs.Values.{read_field, field, months_at, minutes_at, written_second, second_at, plus_seconds, clock_fields, after_t, clock_at}
-use Rattle.csvw_duration.specs.Values.{IsSmall, seconds_at, with_months, whole_months, fields_at, after_p, begins_with_minus, after_minus, duration_fields}
-use Rattle.csvw_duration.specs.Forms.{amount, is_empty, second_text, clock_text, seconds_text, months_text, zero_text, sign_text, is_zero, value_text, duration_form}
+use Rattle.csvw_duration.specs.Values.{is_small, seconds_at, with_months, whole_months, fields_at, after_p, begins_with_minus, after_minus, duration_fields}
+use Rattle.csvw_duration.specs.Forms.{amount, is_empty, second_text, clock_text, seconds_text, months_text, zero_text, sign_text, is_zero, value_text, small_text, duration_form}
 use Rattle.csvw_duration.proofs.DigitLemmas.{digits_first}
 use Rattle.csvw_duration.proofs.ReadAgain.{digits_again, number_again, read_other, none_at_byte, none_at_end, amount_field, amount_skips}
 
@@ -196,7 +197,7 @@ p_some kind [] m s ds e some =
 p_some kind (b ∷ bs) m s ds e some = e
 
 sign_again : (kind : DurationKind) (minus : Bool) (t : List ℕ)
-    → duration_form kind (sign_text minus ++ t) ≡ option_view (value_text kind minus) (after_p kind t)
+    → duration_form kind (sign_text minus ++ t) ≡ after_p kind t >>= small_text kind minus
 sign_again kind true t = refl
 sign_again kind false t = refl
 
@@ -205,6 +206,9 @@ unfolding read_field written_second
 zero_again kinds.Any = refl
 zero_again kinds.YearMonth = refl
 zero_again kinds.DayTime = refl
+
+small_is : (m s : ℕ) (ds : List ℕ) → m < 12 * 10 ^ 9 → s < 86_400 * 10 ^ 9 → is_small (m, s, ds) ≡ true
+small_is m s ds hm hs = grind (arith, nat_tests)
 
 abbrev text_by : Bool → DurationKind → Bool → ℕ → ℕ → List ℕ → List ℕ
 text_by b kind minus m s ds = cond b (zero_text kind) ((sign_text minus ++ months_text m) ++ seconds_text s ds)
@@ -216,12 +220,18 @@ value_by false kind minus m s ds e hm hs f k =
     let t = months_text m ++ seconds_text s ds in
     let again = p_some kind t m s ds (fields_again kind m s ds hm hs f k) e in
     ap (λ l. duration_form kind l) (append_assoc (sign_text minus) (months_text m) (seconds_text s ds)) ∙ sign_again kind minus t
-    ∙ ap (option_view (value_text kind minus)) again ∙ ap (λ b. Some (text_by b kind minus m s ds)) e
+    ∙ ap (λ (o : Option (ℕ × ℕ × List ℕ)). o >>= small_text kind minus) again
+    ∙ rw (small_is m s ds hm hs) (ap (λ b. Some (text_by b kind minus m s ds)) e)
 
 -- the canonical text of a value is its own
-value_again : (kind : DurationKind) (minus : Bool) (x : ℕ × ℕ × List ℕ) → IsSmall x → IsValue kind x
+value_again : (kind : DurationKind) (minus : Bool) (x : ℕ × ℕ × List ℕ) → is_small x ≡ true → IsValue kind x
     → duration_form kind (value_text kind minus x) ≡ Some (value_text kind minus x)
-value_again kind minus x small v = value_by (is_zero x) kind minus x.0 x.1 x.2 refl small.0 small.1 v.fraction v.of_kind
+value_again kind minus x small v =
+    let low = and_parts (nat_lt x.0 12_000_000_000) (nat_lt x.1 86_400_000_000_000) small in
+    value_by (is_zero x) kind minus x.0 x.1 x.2 refl (is_less low.0) (is_less low.1) v.fraction v.of_kind
+  where
+    is_less : {n limit : ℕ} → nat_lt n limit ≡ true → n < limit
+    is_less h = grind (arith, nat_tests)
 
 -- ---- the value of a text
 
@@ -352,14 +362,18 @@ value_kept kind (Some bs) = p_kept kind bs
 
 -- ---- the law
 
-from_value : (kind : DurationKind) (minus : Bool) (o : Option (ℕ × ℕ × List ℕ)) (form : List ℕ) → IfSome o IsSmall → IfSome o (IsValue kind)
-    → option_view (value_text kind minus) o ≡ Some form → duration_form kind form ≡ Some form
-from_value kind minus None form small v e = cc
-from_value kind minus (Some x) form small v e =
+from_small : (kind : DurationKind) (minus : Bool) (x : ℕ × ℕ × List ℕ) (form : List ℕ) (b : Bool) → is_small x ≡ b → IsValue kind x
+    → cond b (Some (value_text kind minus x)) None ≡ Some form → duration_form kind form ≡ Some form
+from_small kind minus x form false small v e = cc
+from_small kind minus x form true small v e =
     let same = same_Some (value_text kind minus x) form e in
     subst (λ (t : List ℕ). duration_form kind t ≡ Some t) same (value_again kind minus x small v)
 
-pub same_duration : (kind : DurationKind) (text form : List ℕ) → IfSome (duration_fields kind text) IsSmall → duration_form kind text ≡ Some form
-    → duration_form kind form ≡ Some form
-same_duration kind text form small e =
-    from_value kind (begins_with_minus text) (duration_fields kind text) form small (value_kept kind (after_byte 80 (after_minus text))) e
+from_value : (kind : DurationKind) (minus : Bool) (o : Option (ℕ × ℕ × List ℕ)) (form : List ℕ) → IfSome o (IsValue kind)
+    → o >>= small_text kind minus ≡ Some form → duration_form kind form ≡ Some form
+from_value kind minus None form v e = cc
+from_value kind minus (Some x) form v e = from_small kind minus x form (is_small x) refl v e
+
+pub same_duration : (kind : DurationKind) (text form : List ℕ) → duration_form kind text ≡ Some form → duration_form kind form ≡ Some form
+same_duration kind text form e =
+    from_value kind (begins_with_minus text) (duration_fields kind text) form (value_kept kind (after_byte 80 (after_minus text))) e

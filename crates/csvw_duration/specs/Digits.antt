@@ -1,8 +1,8 @@
 -- The digits at the start of a text, and the text after them.
-use Rattle.std.specs.Prelude.{ℕ, ◌&&◌, ◌==◌, nat_lt, Bool, Option, Some, None, if◌then◌else◌, List, [], ◌∷◌, length, drop}
+use Rattle.std.specs.Prelude.{ℕ, ◌≤◌, ◌&&◌, ◌==◌, nat_lt, Bool, Option, Some, None, if◌then◌else◌, List, [], ◌∷◌, length, drop}
 use Rattle.std.specs.List.{take_while}
 use Rattle.std.specs.Char.{is_ascii_digit}
-use Rattle.std.specs.Str.Parse.{digits_value}
+use Rattle.std.specs.Str.Parse.{AllDigits, digits_value}
 
 abbrev pub option_view : {A B : Type 0} → (A → B) → Option A → Option B
 option_view f None = None
@@ -42,6 +42,10 @@ at_end (b ∷ bs) = None
 abbrev pub fraction_at : List ℕ → Option (List ℕ × List ℕ)
 fraction_at [] = Some ([], [])
 fraction_at (b ∷ bs) = if b == 46 then digits_at bs else Some ([], b ∷ bs)
+
+-- digits, at most nine of them
+abbrev pub IsFraction : List ℕ → Type 0
+IsFraction ds = AllDigits 10 ds × (length ds ≤ 9)
 
 -- digits without the zeros at their end
 abbrev pub with_first : ℕ → List ℕ → List ℕ

@@ -1,10 +1,10 @@
 -- The canonical text of a duration (XML Schema 1.1 Part 2, appendix E.2).
-use Rattle.std.specs.Prelude.{ℕ, ◌/◌, ◌%◌, ◌==◌, ◌&&◌, Bool, true, false, Option, if◌then◌else◌, codes, List, [], ◌∷◌, ◌++◌}
+use Rattle.std.specs.Prelude.{ℕ, ◌/◌, ◌%◌, ◌==◌, ◌&&◌, Bool, true, false, Option, Some, None, if◌then◌else◌, codes, List, [], ◌∷◌, ◌++◌}
 use Rattle.std.specs.Fmt.{decimal}
 use Rattle.csvw_duration.specs.declared.value.DurationKind.{DurationKind}
 use Rattle.csvw_duration.specs.declared.value.DurationKind.TheVariants as kinds
-use Rattle.csvw_duration.specs.Digits.{option_view}
-use Rattle.csvw_duration.specs.Values.{begins_with_minus, duration_fields}
+use Rattle.csvw_duration.specs.Digits.{◌>>=◌}
+use Rattle.csvw_duration.specs.Values.{begins_with_minus, duration_fields, is_small}
 
 -- a number and its letter, unless the number is 0
 abbrev pub amount : ℕ → List ℕ → List ℕ
@@ -48,6 +48,10 @@ value_text kind minus x =
     if is_zero x then zero_text kind
     else (sign_text minus ++ months_text x.0) ++ seconds_text x.1 x.2
 
--- the canonical text of the duration that a text writes
+-- the canonical text of a value that isn't too long
+abbrev pub small_text : DurationKind → Bool → ℕ × ℕ × List ℕ → Option (List ℕ)
+small_text kind minus x = if is_small x then Some (value_text kind minus x) else None
+
+-- the canonical text of the duration that a text writes, if it is shorter than 10^9 years and 10^9 days
 abbrev pub duration_form : DurationKind → List ℕ → Option (List ℕ)
-duration_form kind bs = option_view (value_text kind (begins_with_minus bs)) (duration_fields kind bs)
+duration_form kind bs = duration_fields kind bs >>= small_text kind (begins_with_minus bs)

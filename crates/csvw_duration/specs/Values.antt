@@ -1,5 +1,5 @@
 -- Durations: the texts that write one, and the value of each (XML Schema 1.1 Part 2, sections 3.3.6, 3.4.26 and 3.4.27).
-use Rattle.std.specs.Prelude.{ℕ, ◌+◌, ◌*◌, ◌<◌, ◌==◌, Bool, false, Option, Some, None, if◌then◌else◌, List, [], ◌∷◌}
+use Rattle.std.specs.Prelude.{ℕ, ◌+◌, ◌*◌, ◌<◌, ◌^◌, ◌==◌, ◌&&◌, nat_lt, Bool, false, Option, Some, None, if◌then◌else◌, List, [], ◌∷◌}
 use Rattle.csvw_duration.specs.declared.value.DurationKind.{DurationKind}
 use Rattle.csvw_duration.specs.declared.value.DurationKind.TheVariants as kinds
 use Rattle.csvw_duration.specs.Digits.{◌>>=◌, number_at, after_byte, at_end, fraction_at, trimmed}
@@ -95,6 +95,10 @@ after_minus (b ∷ bs) = if b == 45 then bs else b ∷ bs
 abbrev pub duration_fields : DurationKind → List ℕ → Option (ℕ × ℕ × List ℕ)
 duration_fields kind bs = unsigned_at kind (after_minus bs)
 
--- the years and the days have at most 9 digits
-abbrev pub IsSmall : ℕ × ℕ × List ℕ → Type 0
-IsSmall x = (x.0 < 12_000_000_000) × (x.1 < 86_400_000_000_000)
+-- there are less than 10^9 years and less than 10^9 days
+abbrev pub is_small : ℕ × ℕ × List ℕ → Bool
+is_small x = nat_lt x.0 12_000_000_000 && nat_lt x.1 86_400_000_000_000
+
+-- months and seconds that nine digits for each number allow
+abbrev pub IsBounded : ℕ → ℕ → Type 0
+IsBounded months seconds = (months < 10 ^ 11) × (seconds < 10 ^ 15)

@@ -2,7 +2,7 @@
 ghost use Rattle.std.specs.Prelude.{◌≡◌, ◌≤◌, ◌<◌, ◌^◌, IfSome, length};
 ghost use Rattle.std.specs.Str.{IsAscii};
 ghost use Rattle.std.specs.Str.Parse.{AllDigits, digits_value};
-ghost use Rattle.csvw_duration.specs.Digits.{option_view, first_digits, is_short, digits_at, number_at, after_byte, at_end, fraction_at, trimmed};
+ghost use Rattle.csvw_duration.specs.Digits.{IsFraction, option_view, first_digits, is_short, digits_at, number_at, after_byte, at_end, fraction_at, trimmed};
 
 /// Returns how many digits a text begins with.
 fn digit_count(bytes: &[u8]) -> usize
@@ -33,7 +33,7 @@ fn digits_at(bytes: &[u8]) -> Option<(&[u8], &[u8])>
 }
 
 /// Returns the number of at most 9 digits.
-fn number(digits: &[u8]) -> u64
+pub(crate) fn number(digits: &[u8]) -> u64
     requires digits { AllDigits 10 digits.now }
     requires short { length digits.now ≤ 9 }
     ensures value { result ≡ digits_value 10 digits.now }
@@ -76,6 +76,7 @@ pub(crate) fn ended(bytes: &[u8]) -> Option<()>
 pub(crate) fn fraction_at(bytes: &[u8]) -> Option<(&[u8], &[u8])>
     ensures split { option_view (λ x. (x.0.now, x.1.now)) result ≡ fraction_at bytes.now }
     ensures ascii { IfSome result (λ x. IsAscii x.0.now) }
+    ensures fraction { IfSome result (λ x. IsFraction x.0.now) }
 {
     match bytes {
         [b'.', rest @ ..] => digits_at(rest),
@@ -87,6 +88,7 @@ pub(crate) fn fraction_at(bytes: &[u8]) -> Option<(&[u8], &[u8])>
 pub(crate) fn trimmed(digits: &[u8]) -> &[u8]
     ensures digits { result.now ≡ trimmed digits.now }
     ensures ascii { IsAscii digits.now → IsAscii result.now }
+    ensures fraction { IsFraction digits.now → IsFraction result.now }
 {
     let mut kept = digits;
     loop {

@@ -1,8 +1,8 @@
 //! The canonical text of a duration.
-ghost use Rattle.std.specs.Prelude.{◌≡◌, ◌++◌, IfOk, IfSome, OnOk, Some, List, ℕ};
+ghost use Rattle.std.specs.Prelude.{◌≡◌, ◌++◌, IfOk, OnOk, Some, is_some, List, ℕ};
 ghost use Rattle.std.specs.Str.{IsAscii};
 ghost use Rattle.csvw_duration.specs.declared.value.DurationKind.{DurationKind};
-ghost use Rattle.csvw_duration.specs.Values.{IsSmall, duration_fields};
+ghost use Rattle.csvw_duration.specs.Values.{is_small};
 ghost use Rattle.csvw_duration.specs.Forms.{amount, second_text, clock_text, seconds_text, months_text, zero_text, sign_text, is_zero, value_text, duration_form};
 
 use crate::ascii::push_ascii;
@@ -10,6 +10,11 @@ use crate::value::{DurationKind, Length, begins_with_minus, duration_fields};
 use csvw_text::Text;
 use itoa::Buffer;
 use std::alloc::{AllocError, Global};
+
+/// A duration has fewer months and fewer seconds than these.
+const MONTH_LIMIT: u64 = 12_000_000_000;
+
+const SECOND_LIMIT: u64 = 86_400_000_000_000;
 
 /// Adds a number and its letter, or nothing if the number is 0.
 fn push_amount(out: &mut Text, number: u64, letter: &str) -> Result<(), AllocError>
@@ -109,10 +114,17 @@ fn value_text(
     Ok(form)
 }
 
+/// Returns whether a duration has less than 10^9 years and less than 10^9 days.
+fn is_small(length: Length<'_>) -> bool
+    ensures { result ≡ is_small (length.entry.months, length.entry.seconds, length.entry.fraction.now) }
+{
+    length.months < MONTH_LIMIT && length.seconds < SECOND_LIMIT
+}
+
 /// Returns the canonical text of the duration that a text writes (XML Schema 1.1 part 2, appendix E.2).
 ///
-/// Returns `None` if the text isn't written as a duration of the kind, or if a number or a fraction has more than 9 digits.
-/// Returns `AllocError` if memory runs out.
+/// Returns `None` if the text isn't written as a duration of the kind, if a number or a fraction has more than 9 digits, or if
+/// the duration has 10^9 years or 10^9 days or more. Returns `AllocError` if memory runs out.
 pub fn duration_text(
     alloc: Global,
     kind: DurationKind,
@@ -122,13 +134,24 @@ pub fn duration_text(
 {
     let bytes = text.as_bytes();
     match duration_fields(kind, bytes) {
-        Some(length) => Ok(Some(value_text(alloc, kind, begins_with_minus(bytes), length)?)),
-        None => Ok(None),
+        Some(length) if is_small(length) => {
+            Ok(Some(value_text(alloc, kind, begins_with_minus(bytes), length)?))
+        }
+        _ => Ok(None),
     }
 }
 
-/// A law: a canonical text is its own canonical text, if its years and its days have at most 9 digits.
+/// Returns whether a text writes a duration of a kind. It takes no memory.
+pub fn is_duration(kind: DurationKind, text: &str) -> bool
+    ensures { result ≡ is_some (duration_form kind text.now) }
+{
+    match duration_fields(kind, text.as_bytes()) {
+        Some(length) => is_small(length),
+        None => false,
+    }
+}
+
+/// A law: a canonical text is its own canonical text.
 pub fn one_duration_text()
-    ensures { (kind : DurationKind) (text form : List ℕ) → IfSome (duration_fields kind text) IsSmall → duration_form kind text ≡ Some form
-        → duration_form kind form ≡ Some form }
+    ensures { (kind : DurationKind) (text form : List ℕ) → duration_form kind text ≡ Some form → duration_form kind form ≡ Some form }
 {}

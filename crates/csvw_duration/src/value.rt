@@ -1,9 +1,9 @@
 //! The value of a text of a duration.
 ghost use Rattle.std.specs.Prelude.{◌≡◌, ◌<◌, ◌^◌, IfSome};
 ghost use Rattle.std.specs.Str.{IsAscii};
-ghost use Rattle.csvw_duration.specs.Digits.{option_view};
+ghost use Rattle.csvw_duration.specs.Digits.{IsFraction, option_view};
 ghost use Rattle.csvw_duration.specs.Values.{read_field, field, months_at, minutes_at, written_second, second_at, clock_fields, after_t, clock_at, seconds_at};
-ghost use Rattle.csvw_duration.specs.Values.{fields_at, after_p, unsigned_at, begins_with_minus, after_minus, duration_fields};
+ghost use Rattle.csvw_duration.specs.Values.{IsBounded, fields_at, after_p, unsigned_at, begins_with_minus, after_minus, duration_fields};
 ghost use Rattle.csvw_duration.specs.declared.value.DurationKind.TheVariants as kinds;
 
 use crate::digits::{after_byte, ended, fraction_at, number_at, trimmed};
@@ -54,6 +54,7 @@ fn field(letter: u8, bytes: &[u8]) -> (u64, &[u8])
 /// Reads the fields Y and M.
 fn months_at(bytes: &[u8]) -> (u64, &[u8])
     ensures value { (result.0, result.1.now) ≡ months_at bytes.now }
+    ensures small { result.0 < 10 ^ 11 }
 {
     let (years, rest) = field(b'Y', bytes);
     let (months, rest) = field(b'M', rest);
@@ -76,6 +77,7 @@ fn written_second(bytes: &[u8]) -> Option<(u64, &[u8])>
     ensures value { option_view (λ x. (x.0, x.1.now)) result ≡ written_second bytes.now }
     ensures small { IfSome result (λ x. x.0 < 10 ^ 9) }
     ensures ascii { IfSome result (λ x. IsAscii x.1.now) }
+    ensures fraction { IfSome result (λ x. IsFraction x.1.now) }
 {
     let (number, rest) = number_at(bytes)?;
     let (digits, rest) = fraction_at(rest)?;
@@ -89,6 +91,7 @@ fn second_at(bytes: &[u8]) -> Option<(u64, &[u8])>
     ensures value { option_view (λ x. (x.0, x.1.now)) result ≡ second_at bytes.now }
     ensures small { IfSome result (λ x. x.0 < 10 ^ 9) }
     ensures ascii { IfSome result (λ x. IsAscii x.1.now) }
+    ensures fraction { IfSome result (λ x. IsFraction x.1.now) }
 {
     match bytes {
         [] => Some((0, &[])),
@@ -101,6 +104,7 @@ fn clock_fields(bytes: &[u8]) -> Option<(u64, &[u8])>
     ensures value { option_view (λ x. (x.0, x.1.now)) result ≡ clock_fields bytes.now }
     ensures small { IfSome result (λ x. x.0 < 10 ^ 14) }
     ensures ascii { IfSome result (λ x. IsAscii x.1.now) }
+    ensures fraction { IfSome result (λ x. IsFraction x.1.now) }
 {
     let (minutes, rest) = minutes_at(bytes);
     let (second, fraction) = second_at(rest)?;
@@ -112,6 +116,7 @@ fn after_t(bytes: &[u8]) -> Option<(u64, &[u8])>
     ensures value { option_view (λ x. (x.0, x.1.now)) result ≡ after_t bytes.now }
     ensures small { IfSome result (λ x. x.0 < 10 ^ 14) }
     ensures ascii { IfSome result (λ x. IsAscii x.1.now) }
+    ensures fraction { IfSome result (λ x. IsFraction x.1.now) }
 {
     match bytes {
         [] => None,
@@ -124,6 +129,7 @@ fn clock_at(bytes: &[u8]) -> Option<(u64, &[u8])>
     ensures value { option_view (λ x. (x.0, x.1.now)) result ≡ clock_at bytes.now }
     ensures small { IfSome result (λ x. x.0 < 10 ^ 14) }
     ensures ascii { IfSome result (λ x. IsAscii x.1.now) }
+    ensures fraction { IfSome result (λ x. IsFraction x.1.now) }
 {
     match bytes {
         [] => Some((0, &[])),
@@ -135,7 +141,9 @@ fn clock_at(bytes: &[u8]) -> Option<(u64, &[u8])>
 /// Reads the fields D, H, M and S, and the end of the text.
 fn seconds_at(bytes: &[u8]) -> Option<(u64, &[u8])>
     ensures value { option_view (λ x. (x.0, x.1.now)) result ≡ seconds_at bytes.now }
+    ensures small { IfSome result (λ x. x.0 < 10 ^ 15) }
     ensures ascii { IfSome result (λ x. IsAscii x.1.now) }
+    ensures fraction { IfSome result (λ x. IsFraction x.1.now) }
 {
     let (days, rest) = field(b'D', bytes);
     let (clock, fraction) = clock_at(rest)?;
@@ -145,6 +153,8 @@ fn seconds_at(bytes: &[u8]) -> Option<(u64, &[u8])>
 fn any_fields(bytes: &[u8]) -> Option<Length<'_>>
     ensures value { option_view (λ d. (d.months, d.seconds, d.fraction.now)) result ≡ fields_at kinds.Any bytes.now }
     ensures ascii { IfSome result (λ d. IsAscii d.fraction.now) }
+    ensures fraction { IfSome result (λ d. IsFraction d.fraction.now) }
+    ensures small { IfSome result (λ d. IsBounded d.months d.seconds) }
 {
     let (months, rest) = months_at(bytes);
     let (seconds, fraction) = seconds_at(rest)?;
@@ -158,6 +168,8 @@ fn any_fields(bytes: &[u8]) -> Option<Length<'_>>
 fn year_month_fields(bytes: &[u8]) -> Option<Length<'_>>
     ensures value { option_view (λ d. (d.months, d.seconds, d.fraction.now)) result ≡ fields_at kinds.YearMonth bytes.now }
     ensures ascii { IfSome result (λ d. IsAscii d.fraction.now) }
+    ensures fraction { IfSome result (λ d. IsFraction d.fraction.now) }
+    ensures small { IfSome result (λ d. IsBounded d.months d.seconds) }
 {
     let (months, rest) = months_at(bytes);
     ended(rest)?;
@@ -171,6 +183,8 @@ fn year_month_fields(bytes: &[u8]) -> Option<Length<'_>>
 fn day_time_fields(bytes: &[u8]) -> Option<Length<'_>>
     ensures value { option_view (λ d. (d.months, d.seconds, d.fraction.now)) result ≡ fields_at kinds.DayTime bytes.now }
     ensures ascii { IfSome result (λ d. IsAscii d.fraction.now) }
+    ensures fraction { IfSome result (λ d. IsFraction d.fraction.now) }
+    ensures small { IfSome result (λ d. IsBounded d.months d.seconds) }
 {
     let (seconds, fraction) = seconds_at(bytes)?;
     Some(Length {
@@ -184,6 +198,8 @@ fn day_time_fields(bytes: &[u8]) -> Option<Length<'_>>
 fn fields_at(kind: DurationKind, bytes: &[u8]) -> Option<Length<'_>>
     ensures value { option_view (λ d. (d.months, d.seconds, d.fraction.now)) result ≡ fields_at kind bytes.now }
     ensures ascii { IfSome result (λ d. IsAscii d.fraction.now) }
+    ensures fraction { IfSome result (λ d. IsFraction d.fraction.now) }
+    ensures small { IfSome result (λ d. IsBounded d.months d.seconds) }
 {
     match kind {
         DurationKind::Any => any_fields(bytes),
@@ -196,6 +212,8 @@ fn fields_at(kind: DurationKind, bytes: &[u8]) -> Option<Length<'_>>
 fn after_p(kind: DurationKind, bytes: &[u8]) -> Option<Length<'_>>
     ensures value { option_view (λ d. (d.months, d.seconds, d.fraction.now)) result ≡ after_p kind bytes.now }
     ensures ascii { IfSome result (λ d. IsAscii d.fraction.now) }
+    ensures fraction { IfSome result (λ d. IsFraction d.fraction.now) }
+    ensures small { IfSome result (λ d. IsBounded d.months d.seconds) }
 {
     match bytes {
         [] => None,
@@ -206,6 +224,8 @@ fn after_p(kind: DurationKind, bytes: &[u8]) -> Option<Length<'_>>
 fn unsigned_at(kind: DurationKind, bytes: &[u8]) -> Option<Length<'_>>
     ensures value { option_view (λ d. (d.months, d.seconds, d.fraction.now)) result ≡ unsigned_at kind bytes.now }
     ensures ascii { IfSome result (λ d. IsAscii d.fraction.now) }
+    ensures fraction { IfSome result (λ d. IsFraction d.fraction.now) }
+    ensures small { IfSome result (λ d. IsBounded d.months d.seconds) }
 {
     let rest = after_byte(b'P', bytes)?;
     after_p(kind, rest)
@@ -231,6 +251,8 @@ fn after_minus(bytes: &[u8]) -> &[u8]
 pub(crate) fn duration_fields(kind: DurationKind, bytes: &[u8]) -> Option<Length<'_>>
     ensures value { option_view (λ d. (d.months, d.seconds, d.fraction.now)) result ≡ duration_fields kind bytes.now }
     ensures ascii { IfSome result (λ d. IsAscii d.fraction.now) }
+    ensures fraction { IfSome result (λ d. IsFraction d.fraction.now) }
+    ensures small { IfSome result (λ d. IsBounded d.months d.seconds) }
 {
     unsigned_at(kind, after_minus(bytes))
 }

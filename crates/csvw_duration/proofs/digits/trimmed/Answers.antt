@@ -2,8 +2,8 @@
 use Rattle.std.proofs.Common.{◌≡◌, ℕ, List, [], ◌∷◌, ◌++◌, false, ◌==◌, sym, subst, ap, ◌∙◌, arith}
 use Rattle.std.specs.Str.{IsAscii}
 use Rattle.std.proofs.lemmas.Bool.Decides.{nat_tests}
-use Rattle.csvw_duration.specs.Digits.{trimmed}
-use Rattle.csvw_duration.proofs.DigitLemmas.{front_is_ascii, trimmed_other, trimmed_zero}
+use Rattle.csvw_duration.specs.Digits.{IsFraction, trimmed}
+use Rattle.csvw_duration.proofs.DigitLemmas.{front_is_ascii, trimmed_fraction, trimmed_other, trimmed_zero}
 use Rattle.csvw_duration.proofs.digits.trimmed.Goals as goal
 
 pub loop-last-preserved : goal.loop-last-preserved
@@ -22,3 +22,7 @@ returns-in_default-clause-digits c =
     let split : c.loop-last.kept.now ≡ rest ++ (last ∷ []) = c.in-Some.ensures.cases.0 in
     let other : (last == 48) ≡ false = grind (arith, nat_tests, c.if-last-eq48.false) in
     split ∙ sym (trimmed_other last rest other) ∙ ap (λ l. trimmed l) (sym split) ∙ c.loop-last.invariant.0
+
+pub returns-in_default-clause-fraction : goal.returns-in_default-clause-fraction
+returns-in_default-clause-fraction c =
+    λ h. subst (λ l. IsFraction l) (sym (returns-in_default-clause-digits c)) (trimmed_fraction c.args.digits.now h)
