@@ -109,7 +109,7 @@ never_in_utc : (b : Bool) (text : List ℕ) (moment : ℤ) → cond b (Some (val
 never_in_utc true text moment e = cc
 never_in_utc false text moment e = cc
 
-placed_in_range : (zone : Zone) (m : ℤ) (ds : List ℕ) (minutes : Option ℤ) (moment : ℤ) → IsMomentNumber m
+pub placed_in_range : (zone : Zone) (m : ℤ) (ds : List ℕ) (minutes : Option ℤ) (moment : ℤ) → IsMomentNumber m
     → placed zone m ds minutes ≡ Some (values.Second moment) → IsMomentNumber moment
 placed_in_range zone m ds (Some minutes) moment range e = absurd (never_in_utc _ _ moment e)
 placed_in_range zones.Optional m ds None moment range e = local_in_range m ds moment range e
@@ -138,6 +138,34 @@ unfolding parts_of
 second_in_range zone text moment e =
     let front = take 19 text in
     after_second zone (moment_value Seconds front) (drop 19 text) moment (in_range front (moment_value Seconds front) (moment_given Seconds front)) e
+
+-- ---- a text that has to have a zone is no second without one
+
+pub never_placed : (m : ℤ) (ds : List ℕ) (minutes : Option ℤ) (moment : ℤ) → placed zones.Required m ds minutes ≡ Some (values.Second moment) → ⊥
+never_placed m ds (Some minutes) moment e = never_in_utc _ _ moment e
+never_placed m ds None moment e = cc
+
+never_at_zone : (m : ℤ) (ds : List ℕ) (o : Option (Option ℤ)) (moment : ℤ)
+    → option_and_then (placed_by zones.Required) (o >>= (λ minutes. Some (m, ds, minutes))) ≡ Some (values.Second moment) → ⊥
+never_at_zone m ds None moment e = cc
+never_at_zone m ds (Some minutes) moment e = never_placed m ds minutes moment e
+
+never_at_fraction : (m : ℤ) (o : Option (List ℕ × List ℕ)) (moment : ℤ)
+    → option_and_then (placed_by zones.Required) (o >>= (λ fraction. zone_at fraction.1 >>= (λ minutes. Some (m, trimmed fraction.0, minutes))))
+    ≡ Some (values.Second moment) → ⊥
+never_at_fraction m None moment e = cc
+never_at_fraction m (Some fraction) moment e = never_at_zone m (trimmed fraction.0) (zone_at fraction.1) moment e
+
+never_at_second : (o : Option ℤ) (rest : List ℕ) (moment : ℤ)
+    → option_and_then (placed_by zones.Required)
+    (o >>= (λ m. fraction_at rest >>= (λ fraction. zone_at fraction.1 >>= (λ minutes. Some (m, trimmed fraction.0, minutes)))))
+    ≡ Some (values.Second moment) → ⊥
+never_at_second None rest moment e = cc
+never_at_second (Some m) rest moment e = never_at_fraction m (fraction_at rest) moment e
+
+pub never_local : (text : List ℕ) (moment : ℤ) → date_time_value zones.Required text ≡ Some (values.Second moment) → ⊥
+unfolding parts_of
+never_local text moment e = never_at_second (moment_value Seconds (take 19 text)) (drop 19 text) moment e
 
 -- ---- the first bytes of a text
 

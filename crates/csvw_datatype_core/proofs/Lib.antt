@@ -12,7 +12,9 @@ mod ScaledLemmas
 mod LexicalNumber
 mod DateLemmas
 mod PartLemmas
+mod PatternLemmas
 mod OneDatePart
+mod OneDateTime
 mod OneTime
 mod SubtagLemmas
 mod AsciiLemmas
@@ -28,3 +30,7 @@ mod ValueLemmas
 mod SpacedLemmas
 mod MomentLemmas
 mod DateTimeLemmas
+mod PartFieldLemmas
+mod StampLemmas
+mod StampFormatLemmas
+mod ClockLemmas

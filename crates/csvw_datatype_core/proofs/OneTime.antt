@@ -15,7 +15,7 @@ use Rattle.csvw_datatype_core.proofs.LexicalDateLemmas.{two_are, two_value}
 two_of : (n : ℕ) (rest : List ℕ) → n < 100 → two_at (two_digits n ++ rest) ≡ Some (n, rest)
 two_of n rest low = two_again (two_digits n) rest (two_are n low) ∙ ap (λ v. Some (v, rest)) (two_value n low)
 
-fields_again : (h m s : ℕ) → h < 24 → m < 60 → s < 60 → clock_fields Seconds (clock h m s) ≡ Some (h, m, s)
+pub fields_again : (h m s : ℕ) → h < 24 → m < 60 → s < 60 → clock_fields Seconds (clock h m s) ≡ Some (h, m, s)
 unfolding clock_fields
 fields_again h m s hour minute second =
     let a = two_of h (58 ∷ (two_digits m ++ (58 ∷ two_digits s))) (omega (arith, hour)) in
@@ -23,7 +23,7 @@ fields_again h m s hour minute second =
     let c = two_of s [] (omega (arith, second)) in
     rw (a, b, c) refl
 
-is_less : (n limit : ℕ) → nat_lt n limit ≡ true → n < limit
+pub is_less : (n limit : ℕ) → nat_lt n limit ≡ true → n < limit
 is_less n limit h = grind (arith, nat_tests)
 
 same_clock : (h m s : ℕ) (b : Bool) (form : List ℕ) → (nat_lt h 24 && nat_lt m 60 && nat_lt s 60) ≡ b

@@ -12,6 +12,7 @@ pub mod Moments
 pub mod TimeFields
 pub mod LexicalDates
 pub mod DatePatterns
+pub mod PatternLists
 pub mod DateParts
 pub mod Times
 pub mod Languages
@@ -19,3 +20,8 @@ pub mod XmlNames
 pub mod Forms
 pub mod Values
 pub mod DateTimes
+pub mod Instants
+pub mod PartFields
+pub mod Stamps
+pub mod StampFormats
+pub mod Clocks

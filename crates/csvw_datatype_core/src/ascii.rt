@@ -6,7 +6,7 @@ use csvw_text::Text;
 use std::alloc::AllocError;
 
 /// Returns the bytes as a text.
-fn as_text(bytes: &[u8]) -> &str
+pub(crate) fn as_text(bytes: &[u8]) -> &str
     requires { IsAscii bytes.now }
     ensures { result.now ≡ bytes.now }
 {

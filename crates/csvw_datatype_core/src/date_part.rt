@@ -64,14 +64,14 @@ fn after_digits(bytes: &[u8]) -> Option<&[u8]>
     }
 }
 
-fn after_year(bytes: &[u8]) -> Option<&[u8]>
+pub(crate) fn after_year(bytes: &[u8]) -> Option<&[u8]>
     ensures { option_view (λ rest. rest.now) result ≡ after_year bytes.now }
 {
     after_digits(after_minus(bytes))
 }
 
 /// Reads two digits that are a number from 1 to the last one.
-fn number(last: u8, bytes: &[u8]) -> Option<(u8, &[u8])>
+pub(crate) fn number(last: u8, bytes: &[u8]) -> Option<(u8, &[u8])>
     ensures { option_view (λ x. (x.0, x.1.now)) result ≡ number_at last bytes.now }
 {
     let (number, rest) = two(bytes)?;
@@ -83,7 +83,7 @@ fn number(last: u8, bytes: &[u8]) -> Option<(u8, &[u8])>
 }
 
 /// Returns how many days a month has in some year.
-fn days_of(month: u8) -> u8
+pub(crate) fn days_of(month: u8) -> u8
     ensures { result ≡ days_of month }
 {
     match month {
@@ -181,7 +181,7 @@ fn is_zone(bytes: &[u8]) -> bool
 }
 
 impl DatePart {
-    fn has_zone(self) -> bool
+    pub(crate) fn has_zone(self) -> bool
         ensures { result ≡ has_zone self }
     {
         match self {
@@ -201,7 +201,8 @@ fn is_end(part: DatePart, bytes: &[u8]) -> bool
     }
 }
 
-fn is_date_part(part: DatePart, text: &str) -> bool
+/// Returns whether a text writes a part of a date. It takes no memory.
+pub fn is_date_part(part: DatePart, text: &str) -> bool
     ensures { result ≡ is_date_part part text.now }
 {
     match after_part(part, text.as_bytes()) {

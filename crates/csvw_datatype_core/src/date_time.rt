@@ -1,8 +1,9 @@
 //! How a text writes a moment that may have a zone and parts of a second.
-ghost use Rattle.std.specs.Prelude.{◌≡◌, ◌≤◌, ◌+◌, ◌*◌, ◌<◌, ◌++◌, ◌+ℤ◌, ◌*ℤ◌, pos, neg_ℤ, IfOk, IfSome, OnOk, Some, List, ℕ, ℤ, take};
+ghost use Rattle.std.specs.Prelude.{◌≡◌, ◌≤◌, ◌+◌, ◌*◌, ◌<◌, ◌++◌, ◌+ℤ◌, ◌*ℤ◌, pos, neg_ℤ, IfOk, IfSome, OnOk, Some, is_some, List, ℕ, ℤ, take};
 ghost use Rattle.std.specs.Str.{IsAscii};
 ghost use Rattle.csvw_datatype_core.specs.declared.moment.MomentFormat.TheVariants.{Seconds};
 ghost use Rattle.csvw_datatype_core.specs.declared.date_time.DateTime.TheVariants as values;
+ghost use Rattle.csvw_datatype_core.specs.declared.date_time.Zone.TheVariants as zones;
 ghost use Rattle.csvw_datatype_core.specs.Fields.{option_view};
 ghost use Rattle.csvw_datatype_core.specs.Forms.{moment_form};
 ghost use Rattle.csvw_datatype_core.specs.LexicalDates.{IsMomentNumber};
@@ -57,7 +58,7 @@ fn digits_at(bytes: &[u8]) -> Option<(&[u8], &[u8])>
 }
 
 /// Returns the digits after a point, and the text after them. Without a point there is no digit.
-fn fraction_at(bytes: &[u8]) -> Option<(&[u8], &[u8])>
+pub(crate) fn fraction_at(bytes: &[u8]) -> Option<(&[u8], &[u8])>
     ensures split { option_view (λ x. (x.0.now, x.1.now)) result ≡ fraction_at bytes.now }
     ensures ascii { IfSome result (λ x. IsAscii x.0.now) }
 {
@@ -68,7 +69,7 @@ fn fraction_at(bytes: &[u8]) -> Option<(&[u8], &[u8])>
 }
 
 /// Returns digits without the zeros at their end.
-fn trimmed(digits: &[u8]) -> &[u8]
+pub(crate) fn trimmed(digits: &[u8]) -> &[u8]
     ensures digits { result.now ≡ trimmed digits.now }
     ensures ascii { IsAscii digits.now → IsAscii result.now }
 {
@@ -94,7 +95,7 @@ fn minutes_at(bytes: &[u8]) -> Option<u16>
 }
 
 /// Returns how many minutes a zone is ahead of `Z`, or `Some(None)` if there is no zone. Returns `None` if the text isn't a zone.
-fn zone_at(bytes: &[u8]) -> Option<Option<i32>>
+pub(crate) fn zone_at(bytes: &[u8]) -> Option<Option<i32>>
     ensures { result ≡ zone_at bytes.now }
 {
     match bytes {
@@ -119,7 +120,7 @@ fn is_moment_number(moment: i64) -> bool
 }
 
 /// Adds a point and digits, or nothing if there is no digit.
-fn push_fraction(out: &mut Text, digits: &[u8]) -> Result<(), AllocError>
+pub(crate) fn push_fraction(out: &mut Text, digits: &[u8]) -> Result<(), AllocError>
     requires { IsAscii digits.now }
     ensures { OnOk result (out.new ≡ out.old ++ fraction_text digits.now) }
 {
@@ -168,17 +169,17 @@ fn local(alloc: Global, moment: i64, digits: &[u8]) -> Result<DateTime, AllocErr
 
 /// What a text of a moment writes.
 #[derive(Clone, Copy)]
-struct Parts<'a> {
+pub(crate) struct Parts<'a> {
     /// The second without the zone.
-    moment: i64,
+    pub(crate) moment: i64,
     /// The digits of the parts of the second. The last one is not 0.
-    digits: &'a [u8],
+    pub(crate) digits: &'a [u8],
     /// How many minutes the zone is ahead of `Z`, if there is a zone.
-    minutes: Option<i32>,
+    pub(crate) minutes: Option<i32>,
 }
 
 #[tactic(auto, unfolding(crate::specs::DateTimes::parts_of))]
-fn parts_of(bytes: &[u8]) -> Option<Parts<'_>>
+pub(crate) fn parts_of(bytes: &[u8]) -> Option<Parts<'_>>
     ensures parts { option_view (λ p. (p.moment, p.digits.now, p.minutes)) result ≡ parts_of bytes.now }
     ensures moment { IfSome result (λ p. IsMomentNumber p.moment) }
     ensures ascii { IfSome result (λ p. IsAscii p.digits.now) }
@@ -201,13 +202,17 @@ fn second_at(bytes: &[u8]) -> Option<i64>
     moment_at(MomentFormat::Seconds, bytes)
 }
 
-fn placed(alloc: Global, zone: Zone, parts: Parts<'_>) -> Result<Option<DateTime>, AllocError>
+pub(crate) fn placed(
+    alloc: Global,
+    zone: Zone,
+    parts: Parts<'_>,
+) -> Result<Option<DateTime>, AllocError>
     requires moment { IsMomentNumber parts.moment }
     requires ascii { IsAscii parts.digits.now }
     ensures { IfOk result (λ o. o ≡ placed zone parts.entry.moment parts.entry.digits.now parts.entry.minutes) }
 {
     match (zone, parts.minutes) {
-        (_, Some(minutes)) => in_utc(alloc, parts.moment + minutes as i64 * -60, parts.digits),
+        (_, Some(minutes)) => in_utc(alloc, utc_second(parts.moment, minutes), parts.digits),
         (Zone::Optional, None) => Ok(Some(local(alloc, parts.moment, parts.digits)?)),
         (Zone::Required, None) => Ok(None),
     }
@@ -226,7 +231,50 @@ pub fn read_date_time(alloc: Global, zone: Zone, text: &str) -> Result<Option<Da
     }
 }
 
-/// A law: a whole second without a zone is in the years 0001 to 9999.
+/// Returns whether a moment in the zone `Z` is in the years 0001 to 9999.
+#[tactic(auto, using(crate::proofs::OneDateTime::utc_some))]
+fn is_in_utc(moment: i64, digits: &[u8]) -> bool
+    ensures { result ≡ is_some (in_utc moment digits.now) }
+{
+    is_moment_number(moment)
+}
+
+/// Returns the second in the zone `Z` of a second in a zone that is so many minutes ahead of it.
+fn utc_second(moment: i64, minutes: i32) -> i64
+    requires { IsMomentNumber moment }
+    ensures { result ≡ moment +ℤ (minutes *ℤ neg_ℤ (pos 60)) }
+{
+    moment + minutes as i64 * -60
+}
+
+fn is_placed(zone: Zone, parts: Parts<'_>) -> bool
+    requires { IsMomentNumber parts.moment }
+    ensures { result ≡ is_some (placed zone parts.entry.moment parts.entry.digits.now parts.entry.minutes) }
+{
+    match parts.minutes {
+        Some(minutes) => is_in_utc(utc_second(parts.moment, minutes), parts.digits),
+        None => matches!(zone, Zone::Optional),
+    }
+}
+
+/// Returns whether a text writes a moment. It takes no memory.
+pub fn is_date_time(zone: Zone, text: &str) -> bool
+    ensures { result ≡ is_some (date_time_value zone text.now) }
+{
+    match parts_of(text.as_bytes()) {
+        Some(parts) => is_placed(zone, parts),
+        None => false,
+    }
+}
+
+/// A law: the text of a moment is itself written as a moment, and is its own text.
+pub fn one_date_time_text()
+    ensures { (zone : Zone) (text form : List ℕ) → date_time_value zone text ≡ Some (values.Written form)
+        → date_time_value zone form ≡ Some (values.Written form) }
+{}
+
+/// A law: a whole second without a zone is in the years 0001 to 9999. A text that has to have a zone is none.
 pub fn date_times()
-    ensures { (zone : Zone) (text : List ℕ) (moment : ℤ) → date_time_value zone text ≡ Some (values.Second moment) → IsMomentNumber moment }
+    ensures in_range { (zone : Zone) (text : List ℕ) (moment : ℤ) → date_time_value zone text ≡ Some (values.Second moment) → IsMomentNumber moment }
+    ensures zone { (text : List ℕ) (moment : ℤ) → date_time_value zones.Required text ≡ Some (values.Second moment) → ⊥ }
 {}

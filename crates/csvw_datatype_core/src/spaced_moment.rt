@@ -1,11 +1,11 @@
 //! How a text writes a date, a space and a time of day.
 ghost use Rattle.std.specs.Prelude.{◌≡◌};
 ghost use Rattle.csvw_datatype_core.specs.Fields.{option_view};
-ghost use Rattle.csvw_datatype_core.specs.Values.{at_space, date_value, time_value, spaced_value};
+ghost use Rattle.csvw_datatype_core.specs.Values.{at_space, date_value, spaced_value};
 
 use crate::date::{DateFormat, read_date};
-use crate::moment::{moment_of, second_of_day};
-use crate::time::{TimeFormat, clock_fields};
+use crate::moment::moment_of;
+use crate::time::{TimeFormat, second_of_time};
 
 /// Returns the text before the first space and the text after it, or `None` if there is no space.
 pub(crate) fn at_space(text: &str) -> Option<(&str, &str)>
@@ -14,17 +14,10 @@ pub(crate) fn at_space(text: &str) -> Option<(&str, &str)>
     text.split_once(' ')
 }
 
-fn date_value(format: DateFormat, text: &str) -> Option<i32>
+pub(crate) fn date_value(format: DateFormat, text: &str) -> Option<i32>
     ensures { result ≡ date_value format text.now }
 {
     read_date(format, text)
-}
-
-fn time_value(format: TimeFormat, text: &str) -> Option<u32>
-    ensures { result ≡ time_value format text.now }
-{
-    let (hour, minute, second) = clock_fields(format, text.as_bytes())?;
-    second_of_day(hour, minute, second)
 }
 
 /// Returns the moment that a date, one space and a time of day write, in seconds since 1 January 1970.
@@ -36,6 +29,6 @@ pub(crate) fn read_spaced(date: DateFormat, time: TimeFormat, text: &str) -> Opt
 {
     let (before, after) = at_space(text)?;
     let day = date_value(date, before)?;
-    let second = time_value(time, after)?;
+    let second = second_of_time(time, after)?;
     Some(moment_of(day, second))
 }

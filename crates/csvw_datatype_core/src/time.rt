@@ -1,12 +1,14 @@
 //! How a text writes a time of day.
-ghost use Rattle.std.specs.Prelude.{◌≡◌, ◌≢◌, ◌<◌, IfOk, MatchOption, List, ℕ, Some};
+ghost use Rattle.std.specs.Prelude.{◌≡◌, ◌≢◌, ◌<◌, IfOk, MatchOption, List, ℕ, Some, is_some};
 ghost use Rattle.std.specs.Str.{IsAscii};
 ghost use Rattle.csvw_datatype_core.specs.Fields.{option_view};
 ghost use Rattle.csvw_datatype_core.specs.Times.{time_pattern, after_colon, last_two, no_seconds, seconds_at, clock_fields, clock, clock_of, time_form};
+ghost use Rattle.csvw_datatype_core.specs.Values.{time_value};
 ghost use Rattle.csvw_datatype_core.specs.declared.time.TimeFormat.TheVariants.{Seconds};
 
 use crate::ascii::push_ascii;
 use crate::date::{ended, past, two};
+use crate::moment::second_of_day;
 use csvw_text::Text;
 use std::alloc::{AllocError, Global};
 
@@ -63,7 +65,7 @@ fn after_colon(format: TimeFormat, bytes: &[u8]) -> Option<&[u8]>
     }
 }
 
-fn last_two(bytes: &[u8]) -> Option<u8>
+pub(crate) fn last_two(bytes: &[u8]) -> Option<u8>
     ensures { result ≡ last_two bytes.now }
 {
     let (second, rest) = two(bytes)?;
@@ -117,7 +119,12 @@ fn clock(hour: u8, minute: u8, second: u8) -> [u8; 8]
     ]
 }
 
-fn clock_of(alloc: Global, hour: u8, minute: u8, second: u8) -> Result<Option<Text>, AllocError>
+pub(crate) fn clock_of(
+    alloc: Global,
+    hour: u8,
+    minute: u8,
+    second: u8,
+) -> Result<Option<Text>, AllocError>
     ensures { IfOk result (λ o. o ≡ clock_of (hour, minute, second)) }
 {
     if hour < 24 && minute < 60 && second < 60 {
@@ -138,6 +145,33 @@ pub fn time_text(alloc: Global, format: TimeFormat, text: &str) -> Result<Option
     match clock_fields(format, text.as_bytes()) {
         Some((hour, minute, second)) => clock_of(alloc, hour, minute, second),
         None => Ok(None),
+    }
+}
+
+/// Returns the second of its day that a time of day is, from 0 to 86,399 (XML Schema 1.1 part 2, section 3.3.8).
+///
+/// Returns `None` if the text isn't in the format, or if a day has no such time.
+pub fn second_of_time(format: TimeFormat, text: &str) -> Option<u32>
+    ensures { result ≡ time_value format text.now }
+{
+    second_at(format, text.as_bytes())
+}
+
+/// Returns the second of its day that bytes are, as `second_of_time` does.
+pub(crate) fn second_at(format: TimeFormat, bytes: &[u8]) -> Option<u32>
+    ensures { result ≡ time_value format bytes.now }
+{
+    let (hour, minute, second) = clock_fields(format, bytes)?;
+    second_of_day(hour, minute, second)
+}
+
+/// Returns whether a text writes a time of day. It takes no memory.
+pub fn is_time(format: TimeFormat, text: &str) -> bool
+    ensures { result ≡ is_some (time_form format text.now) }
+{
+    match clock_fields(format, text.as_bytes()) {
+        Some((hour, minute, second)) => hour < 24 && minute < 60 && second < 60,
+        None => false,
     }
 }
 

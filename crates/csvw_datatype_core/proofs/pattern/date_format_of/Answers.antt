@@ -1,0 +1,5 @@
+use Rattle.csvw_datatype_core.proofs.PatternLemmas.{date_as}
+use Rattle.csvw_datatype_core.proofs.pattern.date_format_of.Goals as goal
+
+pub returns-clause-format : goal.returns-clause-format
+returns-clause-format c = date_as c.args.pattern.now c.of.result c.of.ensures
