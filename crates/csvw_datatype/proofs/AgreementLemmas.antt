@@ -122,17 +122,17 @@ agree_lengths f =
 
 -- bounds
 
-not_less : (a b : Value) → IsTrue (not (is_below b a)) ↔ (IsLess b a → ⊥)
-not_less a b = is_not (is_below b a) (IsLess b a) (below b a)
+not_less : (s : Simple) (a b : Value) → IsTrue (not (is_below s b a)) ↔ (IsLess s b a → ⊥)
+not_less s a b = is_not (is_below s b a) (IsLess s b a) (below s b a)
 
-same : (a b : Value) → IsTrue (not (is_below a b || is_below b a)) ↔ AreSame a b
-same a b = neither (is_below a b) (is_below b a) _ _ (not_less b a) (not_less a b)
+same : (s : Simple) (a b : Value) → IsTrue (not (is_below s a b || is_below s b a)) ↔ AreSame s a b
+same s a b = neither (is_below s a b) (is_below s b a) _ _ (not_less s b a) (not_less s a b)
 
-not_over : (x y : Option Value) → IsTrue (not (is_over x y)) ↔ IfBoth x y (λ a b. IsLess b a → ⊥)
-not_over x y = not_fails (λ a b. is_below b a) _ not_less x y
+not_over : (s : Simple) (x y : Option Value) → IsTrue (not (is_over s x y)) ↔ IfBoth x y (λ a b. IsLess s b a → ⊥)
+not_over s x y = not_fails (λ a b. is_below s b a) _ (not_less s) x y
 
-under : (x y : Option Value) → IsTrue (not (is_not_under x y)) ↔ IfBoth x y (λ a b. IsAtMost b a → ⊥)
-under x y = not_fails _ _ (λ a b. is_not _ (IsAtMost b a) (up_to b a)) x y
+under : (s : Simple) (x y : Option Value) → IsTrue (not (is_not_under s x y)) ↔ IfBoth x y (λ a b. IsAtMost s b a → ⊥)
+under s x y = not_fails _ _ (λ a b. is_not _ (IsAtMost s b a) (up_to s b a)) x y
 
 alone : (x y z : Option Value) → IsTrue (not (is_some z && (is_some x || is_some y))) ↔ IfBoth z (first_of x y) (λ a b. ⊥)
 alone x y None = (λ h. tt, λ h. refl)
@@ -141,23 +141,23 @@ alone None (Some b) (Some c) = (λ h. no h, λ h. absurd h)
 alone (Some a) y (Some c) = (λ h. no h, λ h. absurd h)
 
 -- the bounds of one side: two inclusive ones are the same, and none stands beside an exclusive one
-record SideAgrees (x y z : Option Value) : Type 0 where
-  pub one : IfBoth x y AreSame
+record SideAgrees (s : Simple) (x y z : Option Value) : Type 0 where
+  pub one : IfBoth x y (AreSame s)
   pub alone : IfBoth z (first_of x y) (λ a b. ⊥)
 
-side : (x y z : Option Value) → IsTrue (side_agrees x y z) ↔ SideAgrees x y z
-side x y z =
-    let p = both _ _ _ _ (not_fails _ AreSame same x y) (alone x y z) in
+side : (s : Simple) (x y z : Option Value) → IsTrue (side_agrees s x y z) ↔ SideAgrees s x y z
+side s x y z =
+    let p = both _ _ _ _ (not_fails _ (AreSame s) (same s) x y) (alone x y z) in
     (λ h. let k = p.0 h in record { one = k.0; alone = k.1 }, λ h. p.1 (h.one, h.alone))
 
-pub agree_bounds : (f : Facets) → IsTrue (bounds_agree f) ↔ BoundsAgree f
-agree_bounds f =
-    let low = side f.minimum f.min_inclusive f.min_exclusive in
-    let high = side f.maximum f.max_inclusive f.max_exclusive in
-    let a = not_over (min_of f) (max_of f) in
-    let b = not_over f.min_exclusive f.max_exclusive in
-    let c = under (min_of f) f.max_exclusive in
-    let d = under f.min_exclusive (max_of f) in
+pub agree_bounds : (s : Simple) (f : Facets) → IsTrue (bounds_agree s f) ↔ BoundsAgree s f
+agree_bounds s f =
+    let low = side s f.minimum f.min_inclusive f.min_exclusive in
+    let high = side s f.maximum f.max_inclusive f.max_exclusive in
+    let a = not_over s (min_of f) (max_of f) in
+    let b = not_over s f.min_exclusive f.max_exclusive in
+    let c = under s (min_of f) f.max_exclusive in
+    let d = under s f.min_exclusive (max_of f) in
     let sides = both _ _ _ _ low high in
     let across = none_of_four _ _ _ _ _ _ _ _ a b c d in
     let all = both _ _ _ _ sides across in (
@@ -177,7 +177,7 @@ agree_bounds f =
             above_exclusive = pairs.3;
           },
       λ h.
-          let minimum : SideAgrees f.minimum f.min_inclusive f.min_exclusive = record { one = h.one_minimum; alone = h.minimum_alone } in
-          let maximum : SideAgrees f.maximum f.max_inclusive f.max_exclusive = record { one = h.one_maximum; alone = h.maximum_alone } in
+          let minimum : SideAgrees s f.minimum f.min_inclusive f.min_exclusive = record { one = h.one_minimum; alone = h.minimum_alone } in
+          let maximum : SideAgrees s f.maximum f.max_inclusive f.max_exclusive = record { one = h.one_maximum; alone = h.maximum_alone } in
           all.1 ((minimum, maximum), (h.inclusive, h.exclusive, h.below_exclusive, h.above_exclusive)),
     )

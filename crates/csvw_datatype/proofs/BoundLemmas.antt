@@ -20,12 +20,15 @@ use Rattle.csvw_datatype.specs.declared.value.Value.{Value}
 use Rattle.csvw_datatype.specs.declared.value.Value.TheVariants as values
 use Rattle.csvw_datatype.specs.declared.simple.Simple.{Simple}
 use Rattle.csvw_datatype.specs.declared.simple.Simple.TheVariants as simples
+use Rattle.csvw_datatype.specs.declared.simple.TextType.{TextType}
 use Rattle.csvw_datatype.specs.declared.simple.Width.{Width}
 use Rattle.csvw_datatype.specs.declared.simple.Floating.{Floating}
 use Rattle.csvw_double.specs.Forms.{double_form}
 use Rattle.std.specs.Fmt.{signed_decimal}
 use Rattle.csvw_datatype.specs.declared.format.Format.{Format}
 use Rattle.csvw_datatype.specs.Widths.{least, greatest, in_units, IsFrom, IsTo, IsInWidth}
+use Rattle.csvw_datatype.specs.Strings.{is_ordered}
+use Rattle.csvw_datatype.specs.TextValues.{text_value}
 use Rattle.csvw_datatype.specs.Reads.{ReadsAs, whole_rules, decimal_rules}
 use Rattle.csvw_datatype.specs.Sound.{IsBoundOf, has_bounds, IsNumberSize, IsWholeNumber}
 use Rattle.csvw_datatype.specs.Bounds.{is_from, is_to, is_in_width, number_bound, day_bound, moment_bound, double_bound, whole_bound, bound_of, bound_of_whole}
@@ -118,6 +121,12 @@ double_given : (f : Floating) (text : List ℕ) (o : Option (List ℕ)) → doub
 double_given f text None is = λ v r. let none = sym is ∙ r.1 in cc
 double_given f text (Some form) is = (form, is, refl)
 
+text_given : (t : TextType) (text : List ℕ) (b : Bool) (o : Option Value) → text_value t None text ≡ o → is_ordered t ≡ b → b ≡ true
+    → IsBoundGiven (simples.Other t) text (cond b o None)
+text_given t text false o is of h = cc
+text_given t text true None is of h = λ v r. let none = sym is ∙ r in cc
+text_given t text true (Some v) is of h = is
+
 module _ (numbers : NumbersGiven) (dates : DatesGiven) (moments : MomentsGiven) (one : OneNumber) where
   pub bound_given : (s : Simple) (text : List ℕ) → has_bounds s ≡ true → IsBoundGiven s text (bound_of s text)
   unfolding bound_of
@@ -128,7 +137,7 @@ module _ (numbers : NumbersGiven) (dates : DatesGiven) (moments : MomentsGiven) 
   bound_given simples.Moment text h = moment_given text _ (moments Seconds text)
   bound_given simples.Text text h = cc
   bound_given simples.Uri text h = cc
-  bound_given (simples.Other t) text h = cc
+  bound_given (simples.Other t) text h = text_given t text (is_ordered t) (text_value t None text) refl refl h
   bound_given (simples.Floating t) text h = double_given t text (double_form text) refl
   bound_given simples.Truth text h = cc
 
@@ -150,6 +159,12 @@ fits_given : BoundsInType → (s : Simple) (text : List ℕ) (o : Option Value) 
 fits_given fits s text None h given = tt
 fits_given fits s text (Some v) h given = fits s None text v h given
 
+text_fits : BoundsInType → (t : TextType) (text : List ℕ) (b : Bool) (o : Option Value) → text_value t None text ≡ o → is_ordered t ≡ b
+    → IfSome (cond b o None) (IsBoundOf (simples.Other t))
+text_fits fits t text false o is of = tt
+text_fits fits t text true None is of = tt
+text_fits fits t text true (Some v) is of = fits (simples.Other t) None text v of is
+
 module _ (numbers : NumbersGiven) (dates : DatesGiven) (moments : MomentsGiven) (one : OneNumber) (fits : BoundsInType) where
   fits_with : (s : Simple) (text : List ℕ) → has_bounds s ≡ true → IfSome (bound_of s text) (IsBoundOf s)
   fits_with s text h = fits_given fits s text _ h (bound_given numbers dates moments one s text h)
@@ -163,7 +178,7 @@ module _ (numbers : NumbersGiven) (dates : DatesGiven) (moments : MomentsGiven) 
   bound_fits simples.Moment text = fits_with simples.Moment text refl
   bound_fits simples.Text text = tt
   bound_fits simples.Uri text = tt
-  bound_fits (simples.Other t) text = tt
+  bound_fits (simples.Other t) text = text_fits fits t text (is_ordered t) (text_value t None text) refl refl
   bound_fits (simples.Floating t) text = fits_with (simples.Floating t) text refl
   bound_fits simples.Truth text = tt
 

@@ -4,7 +4,6 @@ use Rattle.std.proofs.Common.{◌<ℤ◌, ◌≤ℤ◌}
 use Rattle.std.specs.Prelude.{IsTrue}
 use lib.Signed.{lt_z}
 use Rattle.std.specs.Ordering.{is_ge, is_gt, is_some_and}
-use Rattle.csvw_double.specs.Order.{double_cmp}
 use Rattle.std.proofs.lemmas.Bool.Decides.{nat_tests}
 use Rattle.std.proofs.lemmas.Int.{ints, by_lt_z}
 use Rattle.csvw_datatype.specs.declared.simple.Simple.{Simple}
@@ -12,6 +11,7 @@ use Rattle.csvw_datatype.specs.declared.value.Value.{Value}
 use Rattle.csvw_datatype.specs.declared.value.Value.TheVariants.{Text, Truth, Number, Day, Moment}
 use Rattle.csvw_datatype.specs.declared.datatype.Facets.{Facets}
 use Rattle.csvw_datatype.specs.Breaks.{is_below, is_up_to, length_of, text_length, fails, is_over, is_not_under, breaks}
+use Rattle.csvw_datatype.specs.Order.{kept_cmp}
 use Rattle.csvw_datatype.specs.Facets.{IsThereAnd, HasLength, IsLess, IsAtMost, SaysWhatBreaks}
 
 -- tests
@@ -39,51 +39,51 @@ unless : (b : Bool) → IsTrue (not b) ↔ (IsTrue b → ⊥)
 unless true = (λ h. absurd (never.0 h), λ h. absurd (h refl))
 unless false = (λ h k. never.0 k, λ h. refl)
 
-pub below : (v w : Value) → IsTrue (is_below v w) ↔ IsLess v w
-below (Number a) (Number b) = is_less a b
-below (Day a) (Day b) = is_less a b
-below (Moment a) (Moment b) = is_less a b
-below (Number a) (Text t) = never
-below (Number a) (Truth t) = never
-below (Number a) (Day t) = never
-below (Number a) (Moment t) = never
-below (Day a) (Text t) = never
-below (Day a) (Truth t) = never
-below (Day a) (Number t) = never
-below (Day a) (Moment t) = never
-below (Moment a) (Text t) = never
-below (Moment a) (Truth t) = never
-below (Moment a) (Number t) = never
-below (Moment a) (Day t) = never
-below (Text a) (Text b) = unless (is_some_and is_ge (double_cmp a b))
-below (Text a) (Truth t) = never
-below (Text a) (Number t) = never
-below (Text a) (Day t) = never
-below (Text a) (Moment t) = never
-below (Truth a) w = never
+pub below : (s : Simple) (v w : Value) → IsTrue (is_below s v w) ↔ IsLess s v w
+below s (Number a) (Number b) = is_less a b
+below s (Day a) (Day b) = is_less a b
+below s (Moment a) (Moment b) = is_less a b
+below s (Number a) (Text t) = never
+below s (Number a) (Truth t) = never
+below s (Number a) (Day t) = never
+below s (Number a) (Moment t) = never
+below s (Day a) (Text t) = never
+below s (Day a) (Truth t) = never
+below s (Day a) (Number t) = never
+below s (Day a) (Moment t) = never
+below s (Moment a) (Text b) = unless (is_some_and is_ge (kept_cmp s (Moment a) (Text b)))
+below s (Moment a) (Truth t) = never
+below s (Moment a) (Number t) = never
+below s (Moment a) (Day t) = never
+below s (Text a) (Text b) = unless (is_some_and is_ge (kept_cmp s (Text a) (Text b)))
+below s (Text a) (Truth t) = never
+below s (Text a) (Number t) = never
+below s (Text a) (Day t) = never
+below s (Text a) (Moment b) = unless (is_some_and is_ge (kept_cmp s (Text a) (Moment b)))
+below s (Truth a) w = never
 
-pub up_to : (v w : Value) → IsTrue (is_up_to v w) ↔ IsAtMost v w
-up_to (Number a) (Number b) = is_at_most a b
-up_to (Day a) (Day b) = is_at_most a b
-up_to (Moment a) (Moment b) = is_at_most a b
-up_to (Number a) (Text t) = never
-up_to (Number a) (Truth t) = never
-up_to (Number a) (Day t) = never
-up_to (Number a) (Moment t) = never
-up_to (Day a) (Text t) = never
-up_to (Day a) (Truth t) = never
-up_to (Day a) (Number t) = never
-up_to (Day a) (Moment t) = never
-up_to (Moment a) (Text t) = never
-up_to (Moment a) (Truth t) = never
-up_to (Moment a) (Number t) = never
-up_to (Moment a) (Day t) = never
-up_to (Text a) (Text b) = unless (is_some_and is_gt (double_cmp a b))
-up_to (Text a) (Truth t) = never
-up_to (Text a) (Number t) = never
-up_to (Text a) (Day t) = never
-up_to (Text a) (Moment t) = never
-up_to (Truth a) w = never
+pub up_to : (s : Simple) (v w : Value) → IsTrue (is_up_to s v w) ↔ IsAtMost s v w
+up_to s (Number a) (Number b) = is_at_most a b
+up_to s (Day a) (Day b) = is_at_most a b
+up_to s (Moment a) (Moment b) = is_at_most a b
+up_to s (Number a) (Text t) = never
+up_to s (Number a) (Truth t) = never
+up_to s (Number a) (Day t) = never
+up_to s (Number a) (Moment t) = never
+up_to s (Day a) (Text t) = never
+up_to s (Day a) (Truth t) = never
+up_to s (Day a) (Number t) = never
+up_to s (Day a) (Moment t) = never
+up_to s (Moment a) (Text b) = unless (is_some_and is_gt (kept_cmp s (Moment a) (Text b)))
+up_to s (Moment a) (Truth t) = never
+up_to s (Moment a) (Number t) = never
+up_to s (Moment a) (Day t) = never
+up_to s (Text a) (Text b) = unless (is_some_and is_gt (kept_cmp s (Text a) (Text b)))
+up_to s (Text a) (Truth t) = never
+up_to s (Text a) (Number t) = never
+up_to s (Text a) (Day t) = never
+up_to s (Text a) (Moment b) = unless (is_some_and is_gt (kept_cmp s (Text a) (Moment b)))
+up_to s (Truth a) w = never
 
 -- facets
 
@@ -100,21 +100,21 @@ lengths test P s (Number t) (Some k) h = never
 lengths test P s (Day t) (Some k) h = never
 lengths test P s (Moment t) (Some k) h = never
 
-under : (v : Value) (o : Option Value) → IsTrue (is_over o (Some v)) ↔ IsThereAnd o (λ b. IsLess v b)
-under v None = never
-under v (Some b) = below v b
+under : (s : Simple) (v : Value) (o : Option Value) → IsTrue (is_over s o (Some v)) ↔ IsThereAnd o (λ b. IsLess s v b)
+under s v None = never
+under s v (Some b) = below s v b
 
-over : (v : Value) (o : Option Value) → IsTrue (is_over (Some v) o) ↔ IsThereAnd o (λ b. IsLess b v)
-over v None = never
-over v (Some b) = below b v
+over : (s : Simple) (v : Value) (o : Option Value) → IsTrue (is_over s (Some v) o) ↔ IsThereAnd o (λ b. IsLess s b v)
+over s v None = never
+over s v (Some b) = below s b v
 
-not_above : (v : Value) (o : Option Value) → IsTrue (is_not_under o (Some v)) ↔ IsThereAnd o (λ b. IsAtMost v b)
-not_above v None = never
-not_above v (Some b) = up_to v b
+not_above : (s : Simple) (v : Value) (o : Option Value) → IsTrue (is_not_under s o (Some v)) ↔ IsThereAnd o (λ b. IsAtMost s v b)
+not_above s v None = never
+not_above s v (Some b) = up_to s v b
 
-not_below : (v : Value) (o : Option Value) → IsTrue (is_not_under (Some v) o) ↔ IsThereAnd o (λ b. IsAtMost b v)
-not_below v None = never
-not_below v (Some b) = up_to b v
+not_below : (s : Simple) (v : Value) (o : Option Value) → IsTrue (is_not_under s (Some v) o) ↔ IsThereAnd o (λ b. IsAtMost s b v)
+not_below s v None = never
+not_below s v (Some b) = up_to s b v
 
 any : (a b c : Bool) (P Q R : Type 0) → IsTrue a ↔ P → IsTrue b ↔ Q → IsTrue c ↔ R → IsTrue (a || b || c) ↔ (P ⊎ (Q ⊎ R))
 any true b c P Q R p q r = (λ h. inl (p.0 refl), λ h. refl)
@@ -127,6 +127,6 @@ says_what_breaks s v f = record {
   length = lengths (λ n k. not (n == k)) (λ n k. n ≢ k) s v f.length differs;
   min_length = lengths (λ n k. nat_lt n k) (λ n k. n < k) s v f.min_length is_short;
   max_length = lengths (λ n k. nat_lt k n) (λ n k. k < n) s v f.max_length (λ n k. is_short k n);
-  minimum = any _ _ _ _ _ _ (under v f.minimum) (under v f.min_inclusive) (not_above v f.min_exclusive);
-  maximum = any _ _ _ _ _ _ (over v f.maximum) (over v f.max_inclusive) (not_below v f.max_exclusive);
+  minimum = any _ _ _ _ _ _ (under s v f.minimum) (under s v f.min_inclusive) (not_above s v f.min_exclusive);
+  maximum = any _ _ _ _ _ _ (over s v f.maximum) (over s v f.max_inclusive) (not_below s v f.max_exclusive);
 }

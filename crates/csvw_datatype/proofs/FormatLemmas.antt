@@ -39,6 +39,7 @@ whole_lawful (Some (formats.Truth f)) h = plain_whole
 whole_lawful (Some (formats.Day f)) h = plain_whole
 whole_lawful (Some (formats.Moment f)) h = plain_whole
 whole_lawful (Some (formats.Time f)) h = plain_whole
+whole_lawful (Some (formats.Stamp f)) h = plain_whole
 whole_lawful (Some (formats.Expression e)) h = plain_whole
 
 pub derived_lawful : (w : Width) (o : Option Format) → IsFormatOf (simples.Derived w) o → IsLawful (whole_rules o)
@@ -48,6 +49,7 @@ derived_lawful w (Some (formats.Truth f)) h = plain_whole
 derived_lawful w (Some (formats.Day f)) h = plain_whole
 derived_lawful w (Some (formats.Moment f)) h = plain_whole
 derived_lawful w (Some (formats.Time f)) h = plain_whole
+derived_lawful w (Some (formats.Stamp f)) h = plain_whole
 derived_lawful w (Some (formats.Expression e)) h = plain_whole
 
 pub decimal_lawful : (o : Option Format) → IsFormatOf simples.Decimal o → IsLawful (decimal_rules o)
@@ -57,6 +59,7 @@ decimal_lawful (Some (formats.Truth f)) h = plain_decimal
 decimal_lawful (Some (formats.Day f)) h = plain_decimal
 decimal_lawful (Some (formats.Moment f)) h = plain_decimal
 decimal_lawful (Some (formats.Time f)) h = plain_decimal
+decimal_lawful (Some (formats.Stamp f)) h = plain_decimal
 decimal_lawful (Some (formats.Expression e)) h = plain_decimal
 
 pub floating_lawful : (t : Floating) (o : Option Format) → IsFormatOf (simples.Floating t) o → IsLawful (decimal_rules o)
@@ -66,6 +69,7 @@ floating_lawful t (Some (formats.Truth f)) h = plain_decimal
 floating_lawful t (Some (formats.Day f)) h = plain_decimal
 floating_lawful t (Some (formats.Moment f)) h = plain_decimal
 floating_lawful t (Some (formats.Time f)) h = plain_decimal
+floating_lawful t (Some (formats.Stamp f)) h = plain_decimal
 floating_lawful t (Some (formats.Expression e)) h = plain_decimal
 
 -- the rules of a mantissa differ from those of a number in marks alone

@@ -24,7 +24,6 @@ use Rattle.csvw_datatype_core.specs.LexicalDates.{IsDayNumber, IsMomentNumber}
 use Rattle.csvw_datatype_core.specs.declared.date_time.DateTime.{DateTime}
 use Rattle.csvw_datatype_core.specs.declared.date_time.DateTime.TheVariants as date_times
 use Rattle.csvw_datatype_core.specs.declared.date_time.Zone.{Zone}
-use Rattle.csvw_datatype_core.specs.DateTimes.{date_time_value}
 use Rattle.csvw_double.specs.declared.numeral.DoubleFault.{DoubleFault}
 use Rattle.csvw_double.specs.declared.numeral.DoubleFault.TheVariants as double_faults
 use Rattle.csvw_double.specs.Doubles.{is_number, is_short}
@@ -42,10 +41,11 @@ use Rattle.csvw_datatype.specs.declared.format.NumberFormat.{NumberFormat}
 use Rattle.csvw_datatype.specs.declared.simple.Floating.{Floating}
 use Rattle.csvw_datatype.specs.DoubleFormats.{HasNoPlain, IsPlainOf, at_exponent, exponent, is_special, mantissa, mantissa_rules}
 use Rattle.csvw_datatype.specs.Formats.{IsFormatOf, fits_format, fits_pattern, format_rules, is_described}
-use Rattle.csvw_datatype.specs.TextValues.{text_value, text_if, kept, kept_if, date_time_kept}
+use Rattle.csvw_datatype.specs.Strings.{is_ordered}
+use Rattle.csvw_datatype.specs.TextValues.{moment_in, text_value, text_if, kept, kept_if, date_time_kept}
 use Rattle.csvw_datatype.specs.Widths.{IsInWidth}
 use Rattle.csvw_datatype.specs.Reads.{SpellsTruth, whole_rules, decimal_rules, date_format, moment_format, ReadsAs, ReadsNumberAs, MisreadAs, MisreadsNumber, number_code, double_code, ReadsPlain, ReadsFormatted, ReadsDouble, MisreadsPlain, MisreadsFormatted, MisreadsDouble}
-use Rattle.csvw_datatype.specs.Sound.{IsNumberSize, IsWholeNumber, IsBoundOf, has_bounds}
+use Rattle.csvw_datatype.specs.Sound.{IsNumberSize, IsWholeNumber, IsTextBound, IsBoundOf, has_bounds}
 use Rattle.csvw_datatype.specs.Lexical.{IsWritable}
 use Rattle.csvw_datatype.proofs.FormatLemmas.{whole_lawful, derived_lawful, decimal_lawful, floating_lawful, mantissa_lawful}
 
@@ -67,7 +67,8 @@ abbrev MomentsInRange : Type 0
 MomentsInRange = (f : MomentFormat) (text : List ℕ) (moment : ℤ) → ReadsMoment f text moment → IsMomentNumber moment
 
 abbrev pub DateTimesInRange : Type 0
-DateTimesInRange = (zone : Zone) (text : List ℕ) (moment : ℤ) → date_time_value zone text ≡ Some (date_times.Second moment) → IsMomentNumber moment
+DateTimesInRange = (f : Option Format) (zone : Zone) (text : List ℕ) (moment : ℤ) → moment_in f zone text ≡ Some (date_times.Second moment)
+    → IsMomentNumber moment
 
 -- truths
 
@@ -96,6 +97,7 @@ one_truth (Some (formats.Number f)) text a b ok r s = absurd ok
 one_truth (Some (formats.Day f)) text a b ok r s = absurd ok
 one_truth (Some (formats.Moment f)) text a b ok r s = absurd ok
 one_truth (Some (formats.Time f)) text a b ok r s = absurd ok
+one_truth (Some (formats.Stamp f)) text a b ok r s = absurd ok
 one_truth (Some (formats.Expression e)) text a b ok r s = absurd (no_both false ok refl)
 
 -- numbers
@@ -170,7 +172,7 @@ some_or_none (Some y) x is none = cc
 inside : (x y : List ℕ) → Some x ≡ Some y → x ≡ y
 inside x y e = ap (λ o. unwrap_or o []) e
 
-same_value : {v w : Value} → Some v ≡ Some w → v ≡ w
+pub same_value : {v w : Value} → Some v ≡ Some w → v ≡ w
 same_value {v = v} e = ap (λ o. unwrap_or o v) e
 
 -- numbers with an exponent in a format
@@ -202,6 +204,7 @@ double_value one (Some (formats.Truth f)) text v w l r s = plain_value text v w 
 double_value one (Some (formats.Day f)) text v w l r s = plain_value text v w r s
 double_value one (Some (formats.Moment f)) text v w l r s = plain_value text v w r s
 double_value one (Some (formats.Time f)) text v w l r s = plain_value text v w r s
+double_value one (Some (formats.Stamp f)) text v w l r s = plain_value text v w r s
 double_value one (Some (formats.Expression e)) text v w l r s = plain_value text v w r s
 
 plain_or_fault : (text : List ℕ) (v : Value) (code : Code) → ReadsPlain text v → MisreadsPlain text code → ⊥
@@ -227,6 +230,7 @@ double_or_code one (Some (formats.Truth f)) text v code l r m = plain_or_fault t
 double_or_code one (Some (formats.Day f)) text v code l r m = plain_or_fault text v code r m
 double_or_code one (Some (formats.Moment f)) text v code l r m = plain_or_fault text v code r m
 double_or_code one (Some (formats.Time f)) text v code l r m = plain_or_fault text v code r m
+double_or_code one (Some (formats.Stamp f)) text v code l r m = plain_or_fault text v code r m
 double_or_code one (Some (formats.Expression e)) text v code l r m = plain_or_fault text v code r m
 
 plain_code : (text : List ℕ) (c d : Code) → MisreadsPlain text c → MisreadsPlain text d → c ≡ d
@@ -256,6 +260,7 @@ double_codes one (Some (formats.Truth f)) text c d l p q = plain_code text c d p
 double_codes one (Some (formats.Day f)) text c d l p q = plain_code text c d p q
 double_codes one (Some (formats.Moment f)) text c d l p q = plain_code text c d p q
 double_codes one (Some (formats.Time f)) text c d l p q = plain_code text c d p q
+double_codes one (Some (formats.Stamp f)) text c d l p q = plain_code text c d p q
 double_codes one (Some (formats.Expression e)) text c d l p q = plain_code text c d p q
 
 -- values
@@ -354,9 +359,10 @@ whole (Some (formats.Truth f)) cs z r = whole_group None cs z r
 whole (Some (formats.Day f)) cs z r = whole_group None cs z r
 whole (Some (formats.Moment f)) cs z r = whole_group None cs z r
 whole (Some (formats.Time f)) cs z r = whole_group None cs z r
+whole (Some (formats.Stamp f)) cs z r = whole_group None cs z r
 whole (Some (formats.Expression e)) cs z r = whole_group None cs z r
 
-at_value : (P : Value → Type 0) (v w : Value) → v ≡ w → P w → P v
+pub at_value : (P : Value → Type 0) (v w : Value) → v ≡ w → P w → P v
 at_value P v w e h = subst P (sym e) h
 
 if_writable : (is_one : Bool) (text : List ℕ) (v : Value) → text_if is_one text ≡ Some v → IsWritable v
@@ -391,7 +397,7 @@ text_writable zoned types.Xml f text v e = if_writable _ text v e
 text_writable zoned types.Html f text v e = if_writable _ text v e
 text_writable zoned types.Json f text v e = if_writable _ text v e
 text_writable zoned types.Time f text v e = kept_writable _ v e
-text_writable zoned (types.DateTime zone) f text v e = date_time_writable _ v (zoned zone text) e
+text_writable zoned (types.DateTime zone) f text v e = date_time_writable _ v (zoned f zone text) e
 text_writable zoned (types.Part part) f text v e = kept_writable _ v e
 text_writable zoned (types.Binary form) f text v e = kept_if_writable _ _ v e
 text_writable zoned (types.Duration kind) f text v e = kept_if_writable _ _ v e
@@ -406,6 +412,7 @@ double_writable (Some (formats.Truth f)) text v r = plain_writable text v r
 double_writable (Some (formats.Day f)) text v r = plain_writable text v r
 double_writable (Some (formats.Moment f)) text v r = plain_writable text v r
 double_writable (Some (formats.Time f)) text v r = plain_writable text v r
+double_writable (Some (formats.Stamp f)) text v r = plain_writable text v r
 double_writable (Some (formats.Expression e)) text v r = plain_writable text v r
 
 pub writable : DatesInRange → MomentsInRange → DateTimesInRange → (s : Simple) (f : Option Format) (text : List ℕ) (v : Value) → ReadsAs s f text v → IsWritable v
@@ -445,20 +452,25 @@ double_bound stay t (Some (formats.Truth f)) text v r = plain_bound stay t text 
 double_bound stay t (Some (formats.Day f)) text v r = plain_bound stay t text v r
 double_bound stay t (Some (formats.Moment f)) text v r = plain_bound stay t text v r
 double_bound stay t (Some (formats.Time f)) text v r = plain_bound stay t text v r
+double_bound stay t (Some (formats.Stamp f)) text v r = plain_bound stay t text v r
 double_bound stay t (Some (formats.Expression e)) text v r = plain_bound stay t text v r
 
-pub bound : DatesInRange → MomentsInRange → FormsStay → (s : Simple) (f : Option Format) (text : List ℕ) (v : Value) → has_bounds s ≡ true → ReadsAs s f text v
+-- each value of a type of texts that are ordered can be a bound
+abbrev pub TextBounds : Type 0
+TextBounds = (t : TextType) (f : Option Format) (text : List ℕ) (v : Value) → is_ordered t ≡ true → text_value t f text ≡ Some v → IsTextBound t v
+
+pub bound : DatesInRange → MomentsInRange → FormsStay → TextBounds → (s : Simple) (f : Option Format) (text : List ℕ) (v : Value) → has_bounds s ≡ true → ReadsAs s f text v
     → IsBoundOf s v
-bound dates moments stay simples.Text f text v h r = cc
-bound dates moments stay simples.Uri f text v h r = cc
-bound dates moments stay (simples.Other t) f text v h r = cc
-bound dates moments stay (simples.Floating t) f text v h r = double_bound stay t f text v r
-bound dates moments stay simples.Truth f text v h r = cc
-bound dates moments stay simples.Whole f text v h r =
+bound dates moments stay texts simples.Text f text v h r = cc
+bound dates moments stay texts simples.Uri f text v h r = cc
+bound dates moments stay texts (simples.Other t) f text v h r = texts t f text v h r
+bound dates moments stay texts (simples.Floating t) f text v h r = double_bound stay t f text v r
+bound dates moments stay texts simples.Truth f text v h r = cc
+bound dates moments stay texts simples.Whole f text v h r =
     at_value (λ v. IsBoundOf simples.Whole v) v (values.Number r.0) r.2 (size (whole_rules f) (chars text) r.0 r.1.0, whole f (chars text) r.0 r.1.0)
-bound dates moments stay (simples.Derived w) f text v h r = at_value (λ v. IsBoundOf (simples.Derived w) v) v (values.Number r.0) r.3
+bound dates moments stay texts (simples.Derived w) f text v h r = at_value (λ v. IsBoundOf (simples.Derived w) v) v (values.Number r.0) r.3
     (size (whole_rules f) (chars text) r.0 r.1.0, whole f (chars text) r.0 r.1.0, r.2)
-bound dates moments stay simples.Decimal f text v h r =
+bound dates moments stay texts simples.Decimal f text v h r =
     at_value (λ v. IsBoundOf simples.Decimal v) v (values.Number r.0) r.2 (size (decimal_rules f) (chars text) r.0 r.1.0)
-bound dates moments stay simples.Day f text v h r = at_value (λ v. IsBoundOf simples.Day v) v (values.Day r.0) r.2 (dates (date_format f) text r.0 r.1)
-bound dates moments stay simples.Moment f text v h r = at_value (λ v. IsBoundOf simples.Moment v) v (values.Moment r.0) r.2 (moments (moment_format f) text r.0 r.1)
+bound dates moments stay texts simples.Day f text v h r = at_value (λ v. IsBoundOf simples.Day v) v (values.Day r.0) r.2 (dates (date_format f) text r.0 r.1)
+bound dates moments stay texts simples.Moment f text v h r = at_value (λ v. IsBoundOf simples.Moment v) v (values.Moment r.0) r.2 (moments (moment_format f) text r.0 r.1)

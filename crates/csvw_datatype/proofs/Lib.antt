@@ -5,6 +5,7 @@ mod FormatLemmas
 mod SplitLemmas
 mod ExponentLemmas
 mod LawLemmas
+mod TextBoundLemmas
 mod OneForm
 mod FacetLemmas
 mod AgreementLemmas

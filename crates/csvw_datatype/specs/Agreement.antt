@@ -15,8 +15,8 @@ abbrev pub IfBoth : {A B : Type 0} → Option A → Option B → (A → B → Ty
 IfBoth a b P = IfSome a (λ x. IfSome b (λ y. P x y))
 
 -- neither is less than the other
-abbrev pub AreSame : Value → Value → Type 0
-AreSame a b = (IsLess a b → ⊥) × (IsLess b a → ⊥)
+abbrev pub AreSame : Simple → Value → Value → Type 0
+AreSame s a b = (IsLess s a b → ⊥) × (IsLess s b a → ⊥)
 
 -- the types that are derived from string
 abbrev pub IsDerivedString : TextType → Type 0
@@ -59,12 +59,12 @@ max_of f = first_of f.maximum f.max_inclusive
 
 -- Two names of a bound say the same. An inclusive and an exclusive bound are not set together. minInclusive is neither greater than maxInclusive nor greater
 -- than or equal to maxExclusive. minExclusive is neither greater than maxExclusive nor greater than or equal to maxInclusive.
-pub record BoundsAgree (f : Facets) : Type 0 where
-  pub one_minimum : IfBoth f.minimum f.min_inclusive AreSame
-  pub one_maximum : IfBoth f.maximum f.max_inclusive AreSame
+pub record BoundsAgree (s : Simple) (f : Facets) : Type 0 where
+  pub one_minimum : IfBoth f.minimum f.min_inclusive (AreSame s)
+  pub one_maximum : IfBoth f.maximum f.max_inclusive (AreSame s)
   pub minimum_alone : IfBoth f.min_exclusive (min_of f) (λ a b. ⊥)
   pub maximum_alone : IfBoth f.max_exclusive (max_of f) (λ a b. ⊥)
-  pub inclusive : IfBoth (min_of f) (max_of f) (λ a b. IsLess b a → ⊥)
-  pub exclusive : IfBoth f.min_exclusive f.max_exclusive (λ a b. IsLess b a → ⊥)
-  pub below_exclusive : IfBoth (min_of f) f.max_exclusive (λ a b. IsAtMost b a → ⊥)
-  pub above_exclusive : IfBoth f.min_exclusive (max_of f) (λ a b. IsAtMost b a → ⊥)
+  pub inclusive : IfBoth (min_of f) (max_of f) (λ a b. IsLess s b a → ⊥)
+  pub exclusive : IfBoth f.min_exclusive f.max_exclusive (λ a b. IsLess s b a → ⊥)
+  pub below_exclusive : IfBoth (min_of f) f.max_exclusive (λ a b. IsAtMost s b a → ⊥)
+  pub above_exclusive : IfBoth f.min_exclusive (max_of f) (λ a b. IsAtMost s b a → ⊥)

@@ -12,8 +12,11 @@ use Rattle.csvw_datatype.specs.declared.value.Value.{Value}
 use Rattle.csvw_datatype.specs.declared.value.Value.TheVariants as values
 use Rattle.csvw_datatype.specs.declared.simple.Simple.{Simple}
 use Rattle.csvw_datatype.specs.declared.simple.Simple.TheVariants as simples
+use Rattle.csvw_datatype.specs.declared.simple.TextType.{TextType}
 use Rattle.csvw_datatype.specs.declared.simple.Width.{Width}
 use Rattle.csvw_datatype.specs.Reads.{whole_rules, decimal_rules}
+use Rattle.csvw_datatype.specs.Strings.{is_ordered}
+use Rattle.csvw_datatype.specs.TextValues.{text_value}
 use Rattle.csvw_datatype.specs.Widths.{least, greatest, in_units}
 
 abbrev pub is_from : Option ℤ → ℤ → Bool
@@ -44,6 +47,10 @@ moment_bound moment = Some (values.Moment moment)
 abbrev pub double_bound : List ℕ → Option Value
 double_bound form = Some (values.Text form)
 
+-- the value that a text is without a format, if the values of the type are ordered
+abbrev pub text_bound : TextType → List ℕ → Option Value
+text_bound t text = if is_ordered t then text_value t None text else None
+
 -- the bound that a text is
 unfoldable pub bound_of : Simple → List ℕ → Option Value
 bound_of simples.Whole text = option_and_then (number_bound simples.Whole) (number_value (whole_rules None) (chars text))
@@ -52,6 +59,7 @@ bound_of simples.Decimal text = option_and_then (number_bound simples.Decimal) (
 bound_of simples.Day text = option_and_then day_bound (date_value YearFirst text)
 bound_of simples.Moment text = option_and_then moment_bound (moment_value Seconds text)
 bound_of (simples.Floating f) text = option_and_then double_bound (double_form text)
+bound_of (simples.Other t) text = text_bound t text
 bound_of _ text = None
 
 -- a whole number as a bound of a type of numbers

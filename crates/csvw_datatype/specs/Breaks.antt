@@ -4,7 +4,6 @@ use Rattle.std.specs.Prelude.{ℕ, ◌==◌, ◌||◌, nat_lt, not, Bool, false,
 use Rattle.std.specs.Str.{chars}
 use lib.Signed.{lt_z}
 use Rattle.std.specs.Ordering.{is_ge, is_gt, is_some_and}
-use Rattle.csvw_double.specs.Order.{double_cmp}
 use Rattle.csvw_binary.specs.Binaries.{octet_count}
 use Rattle.csvw_datatype.specs.declared.simple.Simple.{Simple}
 use Rattle.csvw_datatype.specs.declared.simple.Simple.TheVariants as simples
@@ -13,6 +12,7 @@ use Rattle.csvw_datatype.specs.declared.value.Value.{Value}
 use Rattle.csvw_datatype.specs.declared.value.Value.TheVariants.{Text, Truth, Number, Day, Moment}
 use Rattle.csvw_datatype.specs.declared.datatype.Facets.{Facets}
 use Rattle.csvw_datatype.specs.declared.facets.Broken.{Broken}
+use Rattle.csvw_datatype.specs.Order.{kept_cmp}
 
 abbrev pub no_facets : Facets
 no_facets = record {
@@ -27,22 +27,26 @@ no_facets = record {
   max_exclusive = None;
 }
 
--- A number, a day or a moment is below another. A text is a double here: it is neither another nor above it. So NaN, which has no
--- order, is outside of each range (XML Schema Part 2, section 3.3.5).
-abbrev pub is_below : Value → Value → Bool
-is_below (Number a) (Number b) = lt_z a b
-is_below (Day a) (Day b) = lt_z a b
-is_below (Moment a) (Moment b) = lt_z a b
-is_below (Text a) (Text b) = not (is_some_and is_ge (double_cmp a b))
-is_below _ _ = false
+-- A number, a day or a moment is below another. Of values that are kept as texts the first is neither the second nor above it. So a value without an
+-- order, as NaN, is outside of each range (XML Schema Part 2, sections 3.3.5 and 4.3.7).
+abbrev pub is_below : Simple → Value → Value → Bool
+is_below s (Number a) (Number b) = lt_z a b
+is_below s (Day a) (Day b) = lt_z a b
+is_below s (Moment a) (Moment b) = lt_z a b
+is_below s (Moment a) (Text b) = not (is_some_and is_ge (kept_cmp s (Moment a) (Text b)))
+is_below s (Text a) (Moment b) = not (is_some_and is_ge (kept_cmp s (Text a) (Moment b)))
+is_below s (Text a) (Text b) = not (is_some_and is_ge (kept_cmp s (Text a) (Text b)))
+is_below s _ _ = false
 
--- a number, a day or a moment is another, or below it; a double isn't above another
-abbrev pub is_up_to : Value → Value → Bool
-is_up_to (Number a) (Number b) = not (lt_z b a)
-is_up_to (Day a) (Day b) = not (lt_z b a)
-is_up_to (Moment a) (Moment b) = not (lt_z b a)
-is_up_to (Text a) (Text b) = not (is_some_and is_gt (double_cmp a b))
-is_up_to _ _ = false
+-- a number, a day or a moment is another, or below it; of values that are kept as texts the first isn't above the second
+abbrev pub is_up_to : Simple → Value → Value → Bool
+is_up_to s (Number a) (Number b) = not (lt_z b a)
+is_up_to s (Day a) (Day b) = not (lt_z b a)
+is_up_to s (Moment a) (Moment b) = not (lt_z b a)
+is_up_to s (Moment a) (Text b) = not (is_some_and is_gt (kept_cmp s (Moment a) (Text b)))
+is_up_to s (Text a) (Moment b) = not (is_some_and is_gt (kept_cmp s (Text a) (Moment b)))
+is_up_to s (Text a) (Text b) = not (is_some_and is_gt (kept_cmp s (Text a) (Text b)))
+is_up_to s _ _ = false
 
 -- how many octets the text of a type of octets writes, or how many characters any other text has
 abbrev pub text_length : Simple → List ℕ → ℕ
@@ -60,12 +64,12 @@ fails test (Some a) (Some b) = test a b
 fails test _ _ = false
 
 -- both are there, and the second is below the first
-abbrev pub is_over : Option Value → Option Value → Bool
-is_over a b = fails (λ a b. is_below b a) a b
+abbrev pub is_over : Simple → Option Value → Option Value → Bool
+is_over s a b = fails (λ a b. is_below s b a) a b
 
 -- both are there, and the second is the first or below it
-abbrev pub is_not_under : Option Value → Option Value → Bool
-is_not_under a b = fails (λ a b. is_up_to b a) a b
+abbrev pub is_not_under : Simple → Option Value → Option Value → Bool
+is_not_under s a b = fails (λ a b. is_up_to s b a) a b
 
 -- a facet asks for a length
 abbrev pub has_lengths : Facets → Bool
@@ -89,8 +93,8 @@ length_breaks s v f = record {
 
 abbrev pub breaks : Simple → Value → Facets → Broken
 breaks s v f = record (length_breaks s v f) {
-  below_minimum = is_over f.minimum (Some v) || is_over f.min_inclusive (Some v) || is_not_under f.min_exclusive (Some v);
-  above_maximum = is_over (Some v) f.maximum || is_over (Some v) f.max_inclusive || is_not_under (Some v) f.max_exclusive;
+  below_minimum = is_over s f.minimum (Some v) || is_over s f.min_inclusive (Some v) || is_not_under s f.min_exclusive (Some v);
+  above_maximum = is_over s (Some v) f.maximum || is_over s (Some v) f.max_inclusive || is_not_under s (Some v) f.max_exclusive;
 }
 
 -- no facet is broken

@@ -4,6 +4,7 @@ pub mod Names
 pub mod Strings
 pub mod Widths
 pub mod Formats
+pub mod Order
 pub mod Breaks
 pub mod Splits
 pub mod QualifiedNames

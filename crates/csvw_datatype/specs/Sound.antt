@@ -2,16 +2,24 @@
 -- sections 4.6.1 and 4.6.2).
 use Rattle.std.specs.Prelude.{◌≡◌, ◌<◌, ◌%◌, ◌^◌, ◌&&◌, ◌||◌, not, nat_lt, Bool, true, false, Option, Some, None, IfSome, is_some, ℤ, unsigned_abs}
 use Rattle.csvw_datatype_core.specs.LexicalDates.{IsDayNumber, IsMomentNumber}
+use Rattle.csvw_datatype_core.specs.declared.clock.ClockFormat.TheVariants as clocks
+use Rattle.csvw_datatype_core.specs.declared.date_time.Zone.TheVariants as zones
+use Rattle.csvw_datatype_core.specs.Clocks.{clock_form}
+use Rattle.csvw_datatype_core.specs.DateTimes.{date_time_value}
+use Rattle.csvw_datatype_core.specs.DateParts.{is_date_part}
 use Rattle.csvw_double.specs.Forms.{double_form}
+use Rattle.csvw_duration.specs.Forms.{duration_form}
 use Rattle.csvw_datatype.specs.declared.value.Value.{Value}
 use Rattle.csvw_datatype.specs.declared.value.Value.TheVariants as values
 use Rattle.csvw_datatype.specs.declared.simple.Simple.{Simple}
 use Rattle.csvw_datatype.specs.declared.simple.Simple.TheVariants as simples
+use Rattle.csvw_datatype.specs.declared.simple.TextType.{TextType}
+use Rattle.csvw_datatype.specs.declared.simple.TextType.TheVariants as types
 use Rattle.csvw_datatype.specs.declared.datatype.Facets.{Facets}
 use Rattle.csvw_datatype.specs.declared.datatype.Datatype.{Datatype}
 use Rattle.csvw_datatype.specs.Breaks.{has_lengths, is_below, fails, is_over, is_not_under}
 use Rattle.csvw_datatype.specs.Formats.{IsFormatOf}
-use Rattle.csvw_datatype.specs.Strings.{has_length}
+use Rattle.csvw_datatype.specs.Strings.{has_length, is_ordered}
 use Rattle.csvw_datatype.specs.Widths.{IsInWidth}
 
 -- a number that a text can spell, as a count of units of 10^-18
@@ -30,7 +38,17 @@ has_bounds simples.Decimal = true
 has_bounds simples.Day = true
 has_bounds simples.Moment = true
 has_bounds (simples.Floating f) = true
+has_bounds (simples.Other t) = is_ordered t
 has_bounds _ = false
+
+-- A value of a type of texts whose values are ordered: some text writes it. A moment in seconds has no zone.
+abbrev pub IsTextBound : TextType → Value → Type 0
+IsTextBound types.Time (values.Text text) = is_some (clock_form clocks.Any text) ≡ true
+IsTextBound (types.DateTime zone) (values.Text text) = is_some (date_time_value zone text) ≡ true
+IsTextBound (types.DateTime zones.Optional) (values.Moment moment) = IsMomentNumber moment
+IsTextBound (types.Part part) (values.Text text) = is_date_part part text ≡ true
+IsTextBound (types.Duration kind) (values.Text text) = is_some (duration_form kind text) ≡ true
+IsTextBound _ _ = ⊥
 
 -- a value that some text of the type is, and that can be a bound
 abbrev pub IsBoundOf : Simple → Value → Type 0
@@ -40,6 +58,7 @@ IsBoundOf simples.Decimal (values.Number z) = IsNumberSize z
 IsBoundOf simples.Day (values.Day day) = IsDayNumber day
 IsBoundOf simples.Moment (values.Moment moment) = IsMomentNumber moment
 IsBoundOf (simples.Floating f) (values.Text text) = is_some (double_form text) ≡ true
+IsBoundOf (simples.Other t) v = IsTextBound t v
 IsBoundOf _ _ = ⊥
 
 -- each bound that there is, is one of the type; a type without bounds has none
@@ -62,9 +81,9 @@ lengths_agree f =
     || fails (λ n k. nat_lt n k) f.max_length f.length)
 
 -- two inclusive bounds of one side are equal, and neither is set beside an exclusive one
-abbrev pub side_agrees : Option Value → Option Value → Option Value → Bool
-side_agrees bound inclusive exclusive =
-    not (fails (λ a b. is_below a b || is_below b a) bound inclusive) && not (is_some exclusive && (is_some bound || is_some inclusive))
+abbrev pub side_agrees : Simple → Option Value → Option Value → Option Value → Bool
+side_agrees s bound inclusive exclusive =
+    not (fails (λ a b. is_below s a b || is_below s b a) bound inclusive) && not (is_some exclusive && (is_some bound || is_some inclusive))
 
 -- the first one that is set
 abbrev pub first_of : Option Value → Option Value → Option Value
@@ -72,18 +91,18 @@ first_of None b = b
 first_of (Some a) b = Some a
 
 -- a lower bound isn't above an upper one; it isn't equal to it if exactly one of them is exclusive
-abbrev pub sides_agree : Option Value → Option Value → Option Value → Option Value → Bool
-sides_agree low low_exclusive high high_exclusive =
-    not (is_over low high || is_over low_exclusive high_exclusive || is_not_under low high_exclusive || is_not_under low_exclusive high)
+abbrev pub sides_agree : Simple → Option Value → Option Value → Option Value → Option Value → Bool
+sides_agree s low low_exclusive high high_exclusive =
+    not (is_over s low high || is_over s low_exclusive high_exclusive || is_not_under s low high_exclusive || is_not_under s low_exclusive high)
 
-abbrev pub bounds_agree : Facets → Bool
-bounds_agree f =
-    side_agrees f.minimum f.min_inclusive f.min_exclusive && side_agrees f.maximum f.max_inclusive f.max_exclusive
-    && sides_agree (first_of f.minimum f.min_inclusive) f.min_exclusive (first_of f.maximum f.max_inclusive) f.max_exclusive
+abbrev pub bounds_agree : Simple → Facets → Bool
+bounds_agree s f =
+    side_agrees s f.minimum f.min_inclusive f.min_exclusive && side_agrees s f.maximum f.max_inclusive f.max_exclusive
+    && sides_agree s (first_of f.minimum f.min_inclusive) f.min_exclusive (first_of f.maximum f.max_inclusive) f.max_exclusive
 
--- no facet rules out what another asks for
-abbrev pub agree : Facets → Bool
-agree f = lengths_agree f && bounds_agree f
+-- no facet of a type rules out what another asks for
+abbrev pub agree : Simple → Facets → Bool
+agree s f = lengths_agree f && bounds_agree s f
 
 -- the format and the facets fit the type and each other
 pub record IsSound (d : Datatype) : Type 0 where
@@ -91,4 +110,4 @@ pub record IsSound (d : Datatype) : Type 0 where
   pub bounds : AreBoundsOf d.simple d.facets
   pub lengths_apply : lengths_apply d.simple d.facets ≡ true
   pub lengths_agree : lengths_agree d.facets ≡ true
-  pub bounds_agree : bounds_agree d.facets ≡ true
+  pub bounds_agree : bounds_agree d.simple d.facets ≡ true

@@ -4,10 +4,12 @@ use Rattle.std.proofs.Props.{props}
 use mathlib.Core.HLevel.{×_prop, Unit-prop}
 use Rattle.csvw_datatype_core.specs.declared.number.NumberRules.{NumberRules}
 use Rattle.csvw_datatype_core.specs.Numbers.{IsLawful}
+use Rattle.csvw_datatype_core.specs.declared.date_time.Zone.TheVariants as zones
 use Rattle.csvw_datatype.specs.declared.value.Value.{Value}
 use Rattle.csvw_datatype.specs.declared.value.Value.TheVariants as values
 use Rattle.csvw_datatype.specs.declared.simple.Simple.{Simple}
 use Rattle.csvw_datatype.specs.declared.simple.Simple.TheVariants as simples
+use Rattle.csvw_datatype.specs.declared.simple.TextType.{TextType}
 use Rattle.csvw_datatype.specs.declared.simple.TextType.TheVariants as types
 use Rattle.csvw_datatype.specs.declared.simple.Width.{Width}
 use Rattle.csvw_datatype.specs.declared.format.Format.{Format}
@@ -16,7 +18,7 @@ use Rattle.csvw_datatype.specs.declared.datatype.Facets.{Facets}
 use Rattle.csvw_datatype.specs.declared.datatype.Datatype.{Datatype}
 use Rattle.csvw_datatype.specs.Formats.{IsFormatOf}
 use Rattle.csvw_datatype.specs.Widths.{IsFrom, IsTo, IsInWidth}
-use Rattle.csvw_datatype.specs.Sound.{IsNumberSize, IsWholeNumber, IsBoundOf, AreBoundsOf, IsSound, lengths_apply, lengths_agree, bounds_agree}
+use Rattle.csvw_datatype.specs.Sound.{IsNumberSize, IsWholeNumber, IsTextBound, IsBoundOf, AreBoundsOf, IsSound, lengths_apply, lengths_agree, bounds_agree}
 
 lawful-prop : (rules : NumberRules) → IsProp (IsLawful rules)
 lawful-prop rules x y =
@@ -40,6 +42,7 @@ format-prop (simples.Floating t) (Some (formats.Number f)) = lawful-prop _
 format-prop simples.Day (Some (formats.Day f)) = Unit-prop
 format-prop simples.Moment (Some (formats.Moment f)) = Unit-prop
 format-prop (simples.Other types.Time) (Some (formats.Time f)) = Unit-prop
+format-prop (simples.Other (types.DateTime zone)) (Some (formats.Stamp f)) = Unit-prop
 format-prop s (Some f) = λ x y. absurd x
 
 from-prop : (o : Option ℤ) (z : ℤ) → IsProp (IsFrom o z)
@@ -53,6 +56,14 @@ to-prop (Some high) z = hlevel props
 width-prop : (w : Width) (z : ℤ) → IsProp (IsInWidth w z)
 width-prop w z = ×_prop (from-prop _ z) (to-prop _ z)
 
+text-bound-prop : (t : TextType) (v : Value) → IsProp (IsTextBound t v)
+text-bound-prop types.Time (values.Text text) = hlevel props
+text-bound-prop (types.DateTime zone) (values.Text text) = hlevel props
+text-bound-prop (types.DateTime zones.Optional) (values.Moment moment) = ×_prop (hlevel props) (hlevel props)
+text-bound-prop (types.Part part) (values.Text text) = hlevel props
+text-bound-prop (types.Duration kind) (values.Text text) = hlevel props
+text-bound-prop t v = λ x y. absurd x
+
 bound-prop : (s : Simple) (v : Value) → IsProp (IsBoundOf s v)
 bound-prop simples.Whole (values.Number z) = hlevel props
 bound-prop (simples.Derived w) (values.Number z) =
@@ -63,6 +74,7 @@ bound-prop simples.Decimal (values.Number z) = hlevel props
 bound-prop simples.Day (values.Day day) = ×_prop (hlevel props) (hlevel props)
 bound-prop simples.Moment (values.Moment moment) = ×_prop (hlevel props) (hlevel props)
 bound-prop (simples.Floating f) (values.Text text) = hlevel props
+bound-prop (simples.Other t) v = text-bound-prop t v
 bound-prop s v = λ x y. absurd x
 
 some-bound-prop : (s : Simple) (o : Option Value) → IsProp (IfSome o (IsBoundOf s))
@@ -83,7 +95,7 @@ pub IsSound-prop : (d : Datatype) → IsProp (IsSound d)
 IsSound-prop d x y =
     let apply_prop : IsProp (lengths_apply d.simple d.facets ≡ true) = hlevel props in
     let lengths_prop : IsProp (lengths_agree d.facets ≡ true) = hlevel props in
-    let bounds_prop : IsProp (bounds_agree d.facets ≡ true) = hlevel props in
+    let bounds_prop : IsProp (bounds_agree d.simple d.facets ≡ true) = hlevel props in
     λ i. record {
       format = format-prop d.simple d.format x.format y.format i;
       bounds = bounds-prop d.simple d.facets x.bounds y.bounds i;

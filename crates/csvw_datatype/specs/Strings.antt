@@ -5,6 +5,7 @@ use Rattle.csvw_datatype.specs.declared.format.Format.{Format}
 use Rattle.csvw_datatype.specs.declared.format.Format.TheVariants as formats
 use Rattle.csvw_datatype.specs.declared.simple.Simple.{Simple}
 use Rattle.csvw_datatype.specs.declared.simple.Simple.TheVariants as simples
+use Rattle.csvw_datatype.specs.declared.simple.TextType.{TextType}
 use Rattle.csvw_datatype.specs.declared.simple.TextType.TheVariants as types
 use Rattle.csvw_datatype.specs.declared.white_space.WhiteSpace.{WhiteSpace}
 use Rattle.csvw_datatype.specs.declared.white_space.WhiteSpace.TheVariants as ways
@@ -29,6 +30,14 @@ has_length (simples.Other (types.Part part)) = false
 has_length (simples.Other (types.Duration kind)) = false
 has_length (simples.Other _) = true
 has_length _ = false
+
+-- a type of texts whose values are ordered: of times, moments, parts of dates and durations
+abbrev pub is_ordered : TextType → Bool
+is_ordered types.Time = true
+is_ordered (types.DateTime zone) = true
+is_ordered (types.Part part) = true
+is_ordered (types.Duration kind) = true
+is_ordered _ = false
 
 -- What becomes of white space in a cell (Model for Tabular Data, section 6.4, steps 1 and 2). It stays in cells of string, xml, html, json and
 -- anyAtomicType. In those of normalizedString line breaks and tabs become spaces. In all others runs of spaces become one, and the ends have none.

@@ -4,10 +4,12 @@ use Rattle.std.specs.Prelude.{ℕ, Bool, ◌&&◌, Option, Some, None, if◌then
 use Rattle.std.specs.Str.{chars}
 use Rattle.csvw_fault.specs.declared.fault.Code.{Code}
 use Rattle.csvw_fault.specs.declared.fault.Code.TheVariants.{BadDate, BadDateTime, BadTime, BadText, BadDuration}
-use Rattle.csvw_datatype_core.specs.declared.time.TimeFormat.{TimeFormat}
-use Rattle.csvw_datatype_core.specs.declared.time.TimeFormat.TheVariants as time_formats
+use Rattle.csvw_datatype_core.specs.declared.clock.ClockFormat.{ClockFormat}
+use Rattle.csvw_datatype_core.specs.declared.clock.ClockFormat.TheVariants as clocks
+use Rattle.csvw_datatype_core.specs.declared.date_time.Zone.{Zone}
 use Rattle.csvw_datatype_core.specs.DateParts.{date_part_form}
-use Rattle.csvw_datatype_core.specs.Times.{time_form}
+use Rattle.csvw_datatype_core.specs.Clocks.{clock_form}
+use Rattle.csvw_datatype_core.specs.Stamps.{stamp_value}
 use Rattle.csvw_datatype_core.specs.declared.date_time.DateTime.{DateTime}
 use Rattle.csvw_datatype_core.specs.declared.date_time.DateTime.TheVariants as date_times
 use Rattle.csvw_datatype_core.specs.DateTimes.{date_time_value}
@@ -24,9 +26,15 @@ use Rattle.csvw_datatype.specs.declared.format.Format.{Format}
 use Rattle.csvw_datatype.specs.declared.format.Format.TheVariants as formats
 use Rattle.csvw_datatype.specs.Formats.{is_described}
 
-abbrev pub time_format : Option Format → TimeFormat
-time_format (Some (formats.Time f)) = f
-time_format _ = time_formats.Seconds
+-- the format of a time of day; without one it may have parts of a second
+abbrev pub clock_format : Option Format → ClockFormat
+clock_format (Some (formats.Time f)) = f
+clock_format _ = clocks.Any
+
+-- the moment that a text writes in a format, or as XML Schema writes it
+abbrev pub moment_in : Option Format → Zone → List ℕ → Option DateTime
+moment_in (Some (formats.Stamp f)) zone text = stamp_value f zone text
+moment_in _ zone text = date_time_value zone text
 
 -- the value that is the text itself
 abbrev pub text_if : Bool → List ℕ → Option Value
@@ -60,8 +68,8 @@ text_value types.QualifiedName format text = text_if (is_qualified_name text && 
 text_value types.Xml format text = text_if (is_described format text) text
 text_value types.Html format text = text_if (is_described format text) text
 text_value types.Json format text = text_if (is_described format text) text
-text_value types.Time format text = kept (time_form (time_format format) text)
-text_value (types.DateTime zone) format text = date_time_kept (date_time_value zone text)
+text_value types.Time format text = kept (clock_form (clock_format format) text)
+text_value (types.DateTime zone) format text = date_time_kept (moment_in format zone text)
 text_value (types.Part part) format text = kept (date_part_form part text)
 text_value (types.Binary form) format text = kept_if (is_described format text) (binary_form form text)
 text_value (types.Duration kind) format text = kept_if (is_described format text) (duration_form kind text)

@@ -7,16 +7,18 @@ ghost use Rattle.csvw_datatype_core.specs.declared.date.DateFormat.TheVariants.{
 ghost use Rattle.csvw_datatype_core.specs.declared.moment.MomentFormat.TheVariants.{Seconds};
 ghost use Rattle.csvw_datatype.specs.Reads.{ReadsAs};
 ghost use Rattle.csvw_datatype.specs.Sound.{IsBoundOf, has_bounds};
-ghost use Rattle.csvw_datatype.specs.Bounds.{number_bound, day_bound, moment_bound, bound_of, bound_of_whole};
+ghost use Rattle.csvw_datatype.specs.Bounds.{number_bound, day_bound, moment_bound, text_bound, bound_of, bound_of_whole};
 
 use crate::laws::values_of_texts;
 use crate::read::{decimal_rules, whole_rules};
 use crate::reading::{day_of, moment_of, number_of};
-use crate::simple::Simple;
+use crate::simple::{Simple, TextType};
+use crate::text_value::text_value;
 use crate::value::Value;
 use crate::width::{UNIT, is_in_width};
 use csvw_datatype_core::{DateFormat, MomentFormat, one_number, values_read};
 use csvw_double::{canonical_texts_stay, double_of, whole_double};
+use csvw_regex::Expressions;
 use std::alloc::{AllocError, Global};
 
 /// A whole number that is a value of some type is below this limit in size.
@@ -40,7 +42,8 @@ impl Simple {
             Simple::Day => day_of(DateFormat::YearFirst, text).map(Value::Day),
             Simple::Moment => moment_of(MomentFormat::Seconds, text).map(Value::Moment),
             Simple::Floating(_) => double_of(alloc, text)?.map(Value::Text),
-            Simple::Text | Simple::Uri | Simple::Truth | Simple::Other(_) => None,
+            Simple::Other(text_type) => text_bound(alloc, text_type, text)?,
+            Simple::Text | Simple::Uri | Simple::Truth => None,
         })
     }
 
@@ -59,6 +62,17 @@ impl Simple {
             Simple::Floating(_) => whole_double(alloc, number)?.map(Value::Text),
             _ => number_bound(self, number * UNIT),
         })
+    }
+}
+
+/// Returns the value that a text is without a format, or `None` if the values of the type have no order.
+fn text_bound(alloc: Global, text_type: TextType, text: &str) -> Result<Option<Value>, AllocError>
+    ensures { IfOk result (λ bound. bound ≡ text_bound text_type text.now) }
+{
+    if text_type.is_ordered() {
+        text_value(&mut Expressions::new(alloc), text_type, &None, text)
+    } else {
+        Ok(None)
     }
 }
 

@@ -3,7 +3,7 @@ ghost use Rattle.std.specs.Prelude.{◌≡◌, ◌↔◌, ◌<◌, ◌^◌, ◌%
 ghost use Rattle.csvw_datatype_core.specs.LexicalDates.{IsDayNumber, IsMomentNumber};
 ghost use Rattle.csvw_datatype.specs.Breaks.{is_below, fails};
 ghost use Rattle.csvw_datatype.specs.Formats.{IsFormatOf};
-ghost use Rattle.csvw_datatype.specs.Sound.{IsSound, IsBoundOf, AreBoundsOf, IsNumberSize, IsWholeNumber};
+ghost use Rattle.csvw_datatype.specs.Sound.{IsSound, IsBoundOf, IsTextBound, AreBoundsOf, IsNumberSize, IsWholeNumber};
 ghost use Rattle.csvw_datatype.specs.Sound.{lengths_apply, lengths_agree, side_agrees, sides_agree, first_of, bounds_agree, agree};
 
 use crate::datatype::{Datatype, Facets};
@@ -12,7 +12,9 @@ use crate::format::Format;
 use crate::simple::{Simple, TextType};
 use crate::value::Value;
 use crate::width::{UNIT, is_in_width};
+use csvw_datatype_core::{Zone, is_clock, is_date_part, is_date_time};
 use csvw_double::is_double;
+use csvw_duration::is_duration;
 
 /// Numbers are below 10^20 in size, so each has fewer than this many units of 10^-18.
 const NUMBER_LIMIT: u128 = 100_000_000_000_000_000_000_000_000_000_000_000_000;
@@ -52,7 +54,7 @@ impl Datatype {
         if !lengths_agree(&self.facets) {
             return Err(BadDatatype);
         }
-        if !bounds_agree(&self.facets) {
+        if !bounds_agree(self.simple, &self.facets) {
             return Err(BadDatatype);
         }
         Ok(())
@@ -60,12 +62,12 @@ impl Datatype {
 }
 
 impl Facets {
-    /// Returns whether no facet rules out what another asks for. It takes no memory (Metadata Vocabulary for Tabular
-    /// Data, section 5.11.2).
-    pub fn agree(&self) -> bool
-        ensures { result ≡ agree self.now }
+    /// Returns whether no facet of a type rules out what another asks for. It takes no memory (Metadata Vocabulary for
+    /// Tabular Data, section 5.11.2).
+    pub fn agree(&self, simple: Simple) -> bool
+        ensures { result ≡ agree simple self.now }
     {
-        lengths_agree(self) && bounds_agree(self)
+        lengths_agree(self) && bounds_agree(simple, self)
     }
 }
 
@@ -83,6 +85,7 @@ fn is_format_of(simple: Simple, format: &Option<Format>) -> bool
         (Simple::Day, Some(Format::Day(_))) => true,
         (Simple::Moment, Some(Format::Moment(_))) => true,
         (Simple::Other(TextType::Time), Some(Format::Time(_))) => true,
+        (Simple::Other(TextType::DateTime(_)), Some(Format::Stamp(_))) => true,
         _ => false,
     }
 }
@@ -122,6 +125,21 @@ fn is_bound_of(simple: Simple, value: &Value) -> bool
         (Simple::Day, Value::Day(day)) => is_day_number(*day),
         (Simple::Moment, Value::Moment(moment)) => is_moment_number(*moment),
         (Simple::Floating(_), Value::Text(text)) => is_double(text.as_str()),
+        (Simple::Other(text_type), value) => is_text_bound(text_type, value),
+        _ => false,
+    }
+}
+
+/// Returns whether some text of a type writes the value, and the values of the type are ordered.
+fn is_text_bound(text_type: TextType, value: &Value) -> bool
+    ensures { IsTrue result ↔ IsTextBound text_type value.now }
+{
+    match (text_type, value) {
+        (TextType::Time, Value::Text(text)) => is_clock(text.as_str()),
+        (TextType::DateTime(zone), Value::Text(text)) => is_date_time(zone, text.as_str()),
+        (TextType::DateTime(Zone::Optional), Value::Moment(moment)) => is_moment_number(*moment),
+        (TextType::Part(part), Value::Text(text)) => is_date_part(part, text.as_str()),
+        (TextType::Duration(kind), Value::Text(text)) => is_duration(kind, text.as_str()),
         _ => false,
     }
 }
@@ -164,18 +182,21 @@ fn lengths_agree(facets: &Facets) -> bool
         || is_less(facets.max_length, facets.length))
 }
 
-fn bounds_agree(facets: &Facets) -> bool
-    ensures { result ≡ bounds_agree facets.now }
+fn bounds_agree(simple: Simple, facets: &Facets) -> bool
+    ensures { result ≡ bounds_agree simple facets.now }
 {
     side_agrees(
+        simple,
         &facets.minimum,
         &facets.min_inclusive,
         &facets.min_exclusive,
     ) && side_agrees(
+        simple,
         &facets.maximum,
         &facets.max_inclusive,
         &facets.max_exclusive,
     ) && sides_agree(
+        simple,
         first_of(&facets.minimum, &facets.min_inclusive),
         facets.min_exclusive.as_ref(),
         first_of(&facets.maximum, &facets.max_inclusive),
@@ -183,17 +204,23 @@ fn bounds_agree(facets: &Facets) -> bool
     )
 }
 
-fn side_agrees(bound: &Option<Value>, inclusive: &Option<Value>, exclusive: &Option<Value>) -> bool
-    ensures { result ≡ side_agrees bound.now inclusive.now exclusive.now }
+fn side_agrees(
+    simple: Simple,
+    bound: &Option<Value>,
+    inclusive: &Option<Value>,
+    exclusive: &Option<Value>,
+) -> bool
+    ensures { result ≡ side_agrees simple bound.now inclusive.now exclusive.now }
 {
-    !differ(bound, inclusive) && !(exclusive.is_some() && (bound.is_some() || inclusive.is_some()))
+    !differ(simple, bound, inclusive)
+        && !(exclusive.is_some() && (bound.is_some() || inclusive.is_some()))
 }
 
-fn differ(a: &Option<Value>, b: &Option<Value>) -> bool
-    ensures { result ≡ fails (λ a b. is_below a b || is_below b a) a.now b.now }
+fn differ(simple: Simple, a: &Option<Value>, b: &Option<Value>) -> bool
+    ensures { result ≡ fails (λ a b. is_below simple a b || is_below simple b a) a.now b.now }
 {
     match (a, b) {
-        (Some(x), Some(y)) => is_below(x, y) || is_below(y, x),
+        (Some(x), Some(y)) => is_below(simple, x, y) || is_below(simple, y, x),
         (Some(_), None) | (None, Some(_)) | (None, None) => false,
     }
 }
@@ -208,16 +235,17 @@ fn first_of<'a>(a: &'a Option<Value>, b: &'a Option<Value>) -> Option<&'a Value>
 }
 
 fn sides_agree(
+    simple: Simple,
     low: Option<&Value>,
     low_exclusive: Option<&Value>,
     high: Option<&Value>,
     high_exclusive: Option<&Value>,
 ) -> bool
-    ensures { result ≡ sides_agree (option_copied low.entry) (option_copied low_exclusive.entry)
+    ensures { result ≡ sides_agree simple (option_copied low.entry) (option_copied low_exclusive.entry)
         (option_copied high.entry) (option_copied high_exclusive.entry) }
 {
-    !(is_over(low, high)
-        || is_over(low_exclusive, high_exclusive)
-        || is_not_under(low, high_exclusive)
-        || is_not_under(low_exclusive, high))
+    !(is_over(simple, low, high)
+        || is_over(simple, low_exclusive, high_exclusive)
+        || is_not_under(simple, low, high_exclusive)
+        || is_not_under(simple, low_exclusive, high))
 }

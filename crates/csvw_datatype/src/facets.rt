@@ -5,10 +5,10 @@ ghost use Rattle.csvw_datatype.specs.Breaks.{breaks, unbroken, is_faceted, lengt
 ghost use Rattle.csvw_datatype.specs.Breaks.{is_below, is_up_to, length_of, text_length, fails, is_over, is_not_under};
 
 use crate::datatype::{Datatype, Facets};
+use crate::order::compare_kept;
 use crate::simple::{Simple, TextType};
 use crate::value::Value;
 use csvw_binary::octet_count;
-use csvw_double::compare_doubles;
 use std::cmp::Ordering;
 
 /// The facets that a value breaks, one for each code.
@@ -28,7 +28,7 @@ pub struct Broken {
 
 impl Datatype {
     /// Returns whether some facet is about such a value: a length about a text, a bound about a value with an order, or
-    /// about a text, as a double is one.
+    /// about a text, as a double or a duration is one.
     /// Otherwise the value breaks no facet.
     #[inline(always)]
     pub fn is_faceted(&self, value: &Value) -> bool
@@ -47,20 +47,20 @@ impl Datatype {
     pub fn facets(&self, value: &Value) -> Broken
         ensures { result ≡ breaks self.now.simple value.now self.now.facets }
     {
-        let facets = &self.facets;
-        let lengths = broken_lengths(self.simple, value, facets);
+        let (simple, facets) = (self.simple, &self.facets);
+        let lengths = broken_lengths(simple, value, facets);
         // most datatypes have no bounds
         if !facets.has_bounds() {
             return lengths;
         }
         let value = Some(value);
         Broken {
-            below_minimum: is_over(facets.minimum.as_ref(), value)
-                || is_over(facets.min_inclusive.as_ref(), value)
-                || is_not_under(facets.min_exclusive.as_ref(), value),
-            above_maximum: is_over(value, facets.maximum.as_ref())
-                || is_over(value, facets.max_inclusive.as_ref())
-                || is_not_under(value, facets.max_exclusive.as_ref()),
+            below_minimum: is_over(simple, facets.minimum.as_ref(), value)
+                || is_over(simple, facets.min_inclusive.as_ref(), value)
+                || is_not_under(simple, facets.min_exclusive.as_ref(), value),
+            above_maximum: is_over(simple, value, facets.maximum.as_ref())
+                || is_over(simple, value, facets.max_inclusive.as_ref())
+                || is_not_under(simple, value, facets.max_exclusive.as_ref()),
             ..lengths
         }
     }
@@ -163,50 +163,53 @@ pub(crate) fn is_less(a: Option<u64>, b: Option<u64>) -> bool
     }
 }
 
-pub(crate) fn is_below(a: &Value, b: &Value) -> bool
-    ensures { result ≡ is_below a.now b.now }
+/// Returns whether a value of a type is below another, or has no order beside it.
+pub(crate) fn is_below(simple: Simple, a: &Value, b: &Value) -> bool
+    ensures { result ≡ is_below simple a.now b.now }
 {
     match (a, b) {
         (Value::Number(x), Value::Number(y)) => *x < *y,
         (Value::Day(x), Value::Day(y)) => *x < *y,
         (Value::Moment(x), Value::Moment(y)) => *x < *y,
-        (Value::Text(x), Value::Text(y)) => !matches!(
-            compare_doubles(x.as_str(), y.as_str()),
-            Some(Ordering::Equal | Ordering::Greater)
-        ),
+        (Value::Text(_), Value::Text(_) | Value::Moment(_)) | (Value::Moment(_), Value::Text(_)) =>
+            {
+                !matches!(
+                    compare_kept(simple, a, b),
+                    Some(Ordering::Equal | Ordering::Greater)
+                )
+            }
         _ => false,
     }
 }
 
-fn is_up_to(a: &Value, b: &Value) -> bool
-    ensures { result ≡ is_up_to a.now b.now }
+/// Returns whether a value of a type is another, or below it, or has no order beside it.
+fn is_up_to(simple: Simple, a: &Value, b: &Value) -> bool
+    ensures { result ≡ is_up_to simple a.now b.now }
 {
     match (a, b) {
         (Value::Number(x), Value::Number(y)) => *x <= *y,
         (Value::Day(x), Value::Day(y)) => *x <= *y,
         (Value::Moment(x), Value::Moment(y)) => *x <= *y,
-        (Value::Text(x), Value::Text(y)) => !matches!(
-            compare_doubles(x.as_str(), y.as_str()),
-            Some(Ordering::Greater)
-        ),
+        (Value::Text(_), Value::Text(_) | Value::Moment(_)) | (Value::Moment(_), Value::Text(_)) =>
+            { !matches!(compare_kept(simple, a, b), Some(Ordering::Greater)) }
         _ => false,
     }
 }
 
-pub(crate) fn is_over(a: Option<&Value>, b: Option<&Value>) -> bool
-    ensures { result ≡ is_over (option_copied a.entry) (option_copied b.entry) }
+pub(crate) fn is_over(simple: Simple, a: Option<&Value>, b: Option<&Value>) -> bool
+    ensures { result ≡ is_over simple (option_copied a.entry) (option_copied b.entry) }
 {
     match (a, b) {
-        (Some(x), Some(y)) => is_below(y, x),
+        (Some(x), Some(y)) => is_below(simple, y, x),
         (Some(_), None) | (None, Some(_)) | (None, None) => false,
     }
 }
 
-pub(crate) fn is_not_under(a: Option<&Value>, b: Option<&Value>) -> bool
-    ensures { result ≡ is_not_under (option_copied a.entry) (option_copied b.entry) }
+pub(crate) fn is_not_under(simple: Simple, a: Option<&Value>, b: Option<&Value>) -> bool
+    ensures { result ≡ is_not_under simple (option_copied a.entry) (option_copied b.entry) }
 {
     match (a, b) {
-        (Some(x), Some(y)) => is_up_to(y, x),
+        (Some(x), Some(y)) => is_up_to(simple, y, x),
         (Some(_), None) | (None, Some(_)) | (None, None) => false,
     }
 }

@@ -4,7 +4,9 @@ ghost use Rattle.csvw_datatype.specs.Characters.{IsCharacter};
 ghost use Rattle.csvw_datatype.specs.Formats.{is_described};
 ghost use Rattle.csvw_datatype.specs.Bars.{IsTruthText, has_bar, HasNoSplit, IsOnlySplit};
 
-use csvw_datatype_core::{DateFormat, MomentFormat, NumberPattern, NumberRules, TimeFormat};
+use csvw_datatype_core::{
+    ClockFormat, DateFormat, MomentFormat, NumberPattern, NumberRules, StampFormat,
+};
 use csvw_regex::{Expressions, RegularExpression};
 use csvw_text::{Copied, Text};
 use std::alloc::{AllocError, Global};
@@ -38,10 +40,12 @@ pub enum Format {
     Number(NumberFormat),
     /// The format of dates.
     Day(DateFormat),
-    /// The format of dates with a time of day.
+    /// The format of dates with a time of day, without parts of a second and zones.
     Moment(MomentFormat),
     /// The format of times of day.
-    Time(TimeFormat),
+    Time(ClockFormat),
+    /// The format of dates with a time of day that may have parts of a second and a zone.
+    Stamp(StampFormat),
     /// The regular expression of texts (Model for Tabular Data and Metadata on the Web, section 6.4.6).
     Expression(RegularExpression),
 }
@@ -162,6 +166,7 @@ impl Format {
             Format::Day(format) => Ok(Format::Day(*format)),
             Format::Moment(format) => Ok(Format::Moment(*format)),
             Format::Time(format) => Ok(Format::Time(*format)),
+            Format::Stamp(format) => Ok(Format::Stamp(*format)),
             Format::Expression(expression) => Ok(Format::Expression(expression.clone(alloc)?)),
         }
     }
@@ -188,7 +193,8 @@ pub(crate) fn is_described(
             | Format::Number(_)
             | Format::Day(_)
             | Format::Moment(_)
-            | Format::Time(_),
+            | Format::Time(_)
+            | Format::Stamp(_),
         )
         | None => Ok(true),
     }

@@ -15,10 +15,12 @@ use crate::format::Format;
 use crate::simple::Simple;
 use crate::value::Value;
 use csvw_datatype_core::{
-    date_forms, date_times, number_forms, one_date, one_date_text, one_moment, one_moment_text,
-    one_number, one_number_text,
+    date_forms, date_times, number_forms, one_clock_text, one_date, one_date_part_text,
+    one_date_text, one_date_time_text, one_moment, one_moment_text, one_number, one_number_text,
+    stamps,
 };
 use csvw_double::canonical_texts_stay;
+use csvw_duration::one_duration_text;
 
 /// A law: a text is one value at most.
 pub fn one_value()
@@ -57,6 +59,11 @@ pub fn values_of_texts()
     one_moment();
     date_times();
     canonical_texts_stay();
+    stamps();
+    one_clock_text();
+    one_date_part_text();
+    one_date_time_text();
+    one_duration_text();
 }
 
 /// A law: a value has one lexical form among the texts, which are UTF-8 as each `String` is.
@@ -86,7 +93,7 @@ pub fn broken_facets()
 pub fn sound_facets()
     ensures lengths_apply { (s : Simple) (f : Facets) → IsTrue (lengths_apply s f) ↔ LengthsApply s f }
     ensures lengths_agree { (f : Facets) → IsTrue (lengths_agree f) ↔ LengthsAgree f }
-    ensures bounds_agree { (f : Facets) → IsTrue (bounds_agree f) ↔ BoundsAgree f }
+    ensures bounds_agree { (s : Simple) (f : Facets) → IsTrue (bounds_agree s f) ↔ BoundsAgree s f }
 {}
 
 /// Returns whether `==` holds of two values: they are the same text, boolean, number, day or moment.

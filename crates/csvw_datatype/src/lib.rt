@@ -32,6 +32,7 @@ mod facets;
 mod format;
 mod laws;
 mod lexical;
+mod order;
 mod qualified_name;
 mod read;
 mod reading;
@@ -46,7 +47,8 @@ pub use bound::bounds_read;
 pub use check::BadDatatype;
 pub use csvw_binary::BinaryForm;
 pub use csvw_datatype_core::{
-    DateFormat, DatePart, FieldDigits, MomentFormat, Separator, TimeFormat, Zone,
+    ClockFormat, DateFormat, DatePart, FieldDigits, MomentFormat, OffsetForm, Separator,
+    StampFormat, TimeFormat, UtcMark, Zone, ZoneFormat, ZoneGap,
 };
 pub use csvw_duration::DurationKind;
 pub use csvw_regex::{Expressions, RegularExpression};

@@ -106,6 +106,7 @@ fn read_double(
             | Format::Day(_)
             | Format::Moment(_)
             | Format::Time(_)
+            | Format::Stamp(_)
             | Format::Expression(_),
         )
         | None => read_plain_double(alloc, text),
@@ -185,6 +186,7 @@ fn fits_format(format: &Option<Format>, text: &str) -> bool
             | Format::Day(_)
             | Format::Moment(_)
             | Format::Time(_)
+            | Format::Stamp(_)
             | Format::Expression(_),
         )
         | None => true,
@@ -288,6 +290,7 @@ pub(crate) fn whole_rules(format: &Option<Format>) -> NumberRules
             | Format::Day(_)
             | Format::Moment(_)
             | Format::Time(_)
+            | Format::Stamp(_)
             | Format::Expression(_),
         )
         | None => None,
@@ -309,6 +312,7 @@ pub(crate) fn decimal_rules(format: &Option<Format>) -> NumberRules
             | Format::Day(_)
             | Format::Moment(_)
             | Format::Time(_)
+            | Format::Stamp(_)
             | Format::Expression(_),
         )
         | None => NumberRules {
@@ -329,6 +333,7 @@ fn date_format(format: &Option<Format>) -> DateFormat
             | Format::Number(_)
             | Format::Moment(_)
             | Format::Time(_)
+            | Format::Stamp(_)
             | Format::Expression(_),
         )
         | None => DateFormat::YearFirst,
@@ -345,6 +350,7 @@ fn moment_format(format: &Option<Format>) -> MomentFormat
             | Format::Number(_)
             | Format::Day(_)
             | Format::Time(_)
+            | Format::Stamp(_)
             | Format::Expression(_),
         )
         | None => MomentFormat::Seconds,

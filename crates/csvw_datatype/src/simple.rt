@@ -4,7 +4,7 @@ ghost use Rattle.csvw_datatype_core.specs.declared.date_part.DatePart.{DatePart 
 ghost use Rattle.csvw_binary.specs.declared.binary.BinaryForm.{BinaryForm as Form};
 ghost use Rattle.csvw_duration.specs.declared.value.DurationKind.{DurationKind as Kind};
 ghost use Rattle.csvw_datatype.specs.Names.{date_time_name, date_time_iri, part_name, part_iri, binary_name, binary_iri, IsBinaryNamed, duration_name, duration_iri, IsOfNoFamily, name_of, IsNamed, width_name, floating_name, IsFloatingNamed, text_type_name, IsTextTypeNamed, text_type_iri, IsNoneNamed};
-ghost use Rattle.csvw_datatype.specs.Strings.{has_length, takes_expression};
+ghost use Rattle.csvw_datatype.specs.Strings.{has_length, is_ordered, takes_expression};
 
 use csvw_binary::BinaryForm;
 use csvw_datatype_core::{DatePart, Zone};
@@ -350,6 +350,17 @@ impl TextType {
             "dateTimeStamp" => Some(TextType::DateTime(Zone::Required)),
             _ => of_family(name),
         }
+    }
+
+    /// Returns whether the values of the type have an order, and so may be bounds: times, moments, parts of dates and durations
+    /// (Metadata Vocabulary for Tabular Data, section 5.11.2).
+    pub fn is_ordered(self) -> bool
+        ensures { result ≡ is_ordered self }
+    {
+        matches!(
+            self,
+            TextType::Time | TextType::DateTime(_) | TextType::Part(_) | TextType::Duration(_)
+        )
     }
 
     /// Returns the IRI of the type (Metadata Vocabulary for Tabular Data, section 5.11.1).

@@ -1,6 +1,6 @@
 //! The value of a text under a type that keeps texts.
 ghost use Rattle.std.specs.Prelude.{◌≡◌, IfOk, Some, None, if◌then◌else◌};
-ghost use Rattle.csvw_datatype.specs.TextValues.{time_format, text_value, text_code, text_if, kept, kept_if, date_time_kept};
+ghost use Rattle.csvw_datatype.specs.TextValues.{clock_format, moment_in, text_value, text_code, text_if, kept, kept_if, date_time_kept};
 ghost use Rattle.csvw_datatype.specs.Formats.{is_described};
 
 use crate::format::{Format, is_described};
@@ -9,16 +9,16 @@ use crate::simple::TextType;
 use crate::value::Value;
 use csvw_binary::binary_text;
 use csvw_datatype_core::{
-    DateTime, TimeFormat, date_part_text, is_language, is_name, is_name_token, read_date_time,
-    time_text,
+    ClockFormat, DateTime, Zone, clock_text, date_part_text, is_language, is_name, is_name_token,
+    read_date_time, read_stamp,
 };
 use csvw_duration::duration_text;
 use csvw_regex::Expressions;
 use csvw_text::{Code, Text};
 use std::alloc::{AllocError, Global};
 
-fn time_format(format: &Option<Format>) -> TimeFormat
-    ensures { result ≡ time_format format.now }
+fn clock_format(format: &Option<Format>) -> ClockFormat
+    ensures { result ≡ clock_format format.now }
 {
     match format {
         Some(Format::Time(format)) => *format,
@@ -27,9 +27,33 @@ fn time_format(format: &Option<Format>) -> TimeFormat
             | Format::Number(_)
             | Format::Day(_)
             | Format::Moment(_)
+            | Format::Stamp(_)
             | Format::Expression(_),
         )
-        | None => { TimeFormat::Seconds }
+        | None => { ClockFormat::Any }
+    }
+}
+
+/// Reads a moment in a format, or as XML Schema writes it.
+fn read_moment_in(
+    alloc: Global,
+    format: &Option<Format>,
+    zone: Zone,
+    text: &str,
+) -> Result<Option<DateTime>, AllocError>
+    ensures { IfOk result (λ o. o ≡ moment_in format.now zone text.now) }
+{
+    match format {
+        Some(Format::Stamp(format)) => read_stamp(alloc, *format, zone, text),
+        Some(
+            Format::Truth(_)
+            | Format::Number(_)
+            | Format::Day(_)
+            | Format::Moment(_)
+            | Format::Time(_)
+            | Format::Expression(_),
+        )
+        | None => read_date_time(alloc, zone, text),
     }
 }
 
@@ -86,8 +110,8 @@ pub(crate) fn text_value(
 {
     let alloc = expressions.alloc();
     match text_type {
-        TextType::Time => Ok(kept(time_text(alloc, time_format(format), text)?)),
-        TextType::DateTime(zone) => Ok(date_time_kept(read_date_time(alloc, zone, text)?)),
+        TextType::Time => Ok(kept(clock_text(alloc, clock_format(format), text)?)),
+        TextType::DateTime(zone) => Ok(date_time_kept(read_moment_in(alloc, format, zone, text)?)),
         TextType::Part(part) => Ok(kept(date_part_text(alloc, part, text)?)),
         TextType::Binary(form) => {
             let is_one = is_described(format, expressions, text)?;
