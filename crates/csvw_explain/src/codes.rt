@@ -155,7 +155,7 @@ Example:
     metadata.json: {"@context":"http://www.w3.org/ns/csvw","url":"t.csv","tableSchema":{"columns":[{"name":"n","datatype":"dateTime"}]}}
     t.csv: n\n2024-02-29\n
 
-Instead: Write `2024-02-29T23:59:00`, or describe the format `yyyy-MM-ddTHH:mm`. With `--profile w3c` a fraction and a zone may follow, as in `2024-02-29T23:59:00.5Z`, unless the datatype has a format or a bound. A `dateTimeStamp` needs the zone.
+Instead: Write `2024-02-29T23:59:00`, or describe the format `yyyy-MM-ddTHH:mm`. With `--profile w3c` a fraction and a zone may follow, as in `2024-02-29T23:59:00.5Z`. With a format the format says whether they do, as `yyyy-MM-ddTHH:mm:ss.SX`. A `dateTimeStamp` needs the zone.
 
 Section: Model for Tabular Data, section 6.4.4.
 
@@ -181,7 +181,7 @@ Example:
     metadata.json: {"@context":"http://www.w3.org/ns/csvw","url":"t.csv","tableSchema":{"columns":[{"name":"n","datatype":"time"}]}}
     t.csv: n\n15:02\n
 
-Instead: Write `15:02:00`, without a zone and a fraction, or describe the format: `HH:mm`, `HHmm` or `HHmmss`. The datatype `time` needs `--profile w3c`.
+Instead: Write `15:02:00` or `15:02:00.5`, without a zone, or describe the format: `HH:mm`, `HHmm`, `HHmmss` or `HH:mm:ss.SSS`. The datatype `time` needs `--profile w3c`.
 
 Section: Model for Tabular Data, section 6.4.4.
 
@@ -252,7 +252,7 @@ Section: Metadata Vocabulary, section 5.11.2.
 
 ## BelowMinimum (fault of a table)
 
-A value is below its least value.
+A value is below its least value. Or the two have no order, as `P30D` and `P1M`, or as two moments of which only one has a zone.
 
 Example:
 
@@ -265,7 +265,7 @@ Section: Metadata Vocabulary, section 5.11.2.
 
 ## AboveMaximum (fault of a table)
 
-A value is above its greatest value.
+A value is above its greatest value. Or the two have no order, as `P30D` and `P1M`, or as two moments of which only one has a zone.
 
 Example:
 

@@ -4,7 +4,10 @@ ghost use Rattle.csvw_datatype.specs.Lexical.{IsWritable};
 
 use crate::property::{Property, given, length, text};
 use crate::value::{Shown, character};
-use csvw_datatype::{Datatype, Format, MomentFormat, NumberFormat, TruthFormat, Value as Bound};
+use csvw_datatype::{
+    ClockFormat, Datatype, Format, MomentFormat, NumberFormat, StampFormat, TruthFormat,
+    Value as Bound,
+};
 use serde_json::{Value, json};
 use std::alloc::{AllocError, Global};
 
@@ -78,6 +81,20 @@ fn moment_pattern(alloc: Global, format: MomentFormat) -> Result<Value, AllocErr
     Ok(Value::String(pattern))
 }
 
+/// Returns the pattern of times of day.
+fn clock_pattern(alloc: Global, format: ClockFormat) -> Result<Value, AllocError> {
+    let mut pattern = String::new(alloc);
+    format.push_pattern(&mut pattern)?;
+    Ok(Value::String(pattern))
+}
+
+/// Returns the pattern of moments that may have parts of a second and a zone.
+fn stamp_pattern(alloc: Global, format: StampFormat) -> Result<Value, AllocError> {
+    let mut pattern = String::new(alloc);
+    format.push_pattern(&mut pattern)?;
+    Ok(Value::String(pattern))
+}
+
 /// Returns the value of `format`.
 pub(crate) fn format_value(alloc: Global, format: &Format) -> Result<Value, AllocError> {
     match format {
@@ -85,7 +102,8 @@ pub(crate) fn format_value(alloc: Global, format: &Format) -> Result<Value, Allo
         Format::Number(number) => number_format(alloc, number),
         Format::Day(day) => Value::try_from_str(alloc, day.pattern()),
         Format::Moment(moment) => moment_pattern(alloc, *moment),
-        Format::Time(time) => Value::try_from_str(alloc, time.pattern()),
+        Format::Time(time) => clock_pattern(alloc, *time),
+        Format::Stamp(stamp) => stamp_pattern(alloc, *stamp),
         Format::Expression(expression) => Value::try_from_str(alloc, expression.as_str()),
     }
 }

@@ -53,7 +53,7 @@ applies s f false is exact least most = rw (is, exact is, least is, most is) ref
 -- ---- bounds
 
 module _ (texts : TextBoundsFit) (wholes : WholeBoundsFit) where
-  found_fits : (s : Simple) (at : List ℕ) (o : Option Value) → IfSome o (IsBoundOf s) → IfSome (bound_found s at o).value (IsBoundOf s)
+  found_fits : (s : Simple) (at : List ℕ) (o : Option Value) → IfSome o (IsBoundOf s) → IfSome (bound_found at o).value (IsBoundOf s)
   found_fits s at None fits = tt
   found_fits s at (Some v) fits = fits
 
@@ -61,7 +61,7 @@ module _ (texts : TextBoundsFit) (wholes : WholeBoundsFit) where
   integer_fits s at d None = tt
   integer_fits s at d (Some z) = by_kind (is_dated s)
     where
-      by_kind : (b : Bool) → IfSome (cond b (wrong at d None) (bound_found s at (bound_of_whole s z))).value (IsBoundOf s)
+      by_kind : (b : Bool) → IfSome (cond b (wrong at d None) (bound_found at (bound_of_whole s z))).value (IsBoundOf s)
       by_kind true = tt
       by_kind false = found_fits s at _ (wholes s z)
 
@@ -109,10 +109,10 @@ module _ (texts : TextBoundsFit) (wholes : WholeBoundsFit) where
   both true b h = (refl, h)
   both false b h = cc
 
-  agreeing_fit : (s : Simple) (at : List ℕ) (f : Facets) (b : Bool) → agree f ≡ b → AreBoundsOf s f → lengths_apply s f ≡ true
+  agreeing_fit : (s : Simple) (at : List ℕ) (f : Facets) (b : Bool) → agree s f ≡ b → AreBoundsOf s f → lengths_apply s f ≡ true
       → FacetsFit s (cond b (fine f) (faulty BadDatatype at no_facets)).value
   agreeing_fit s at f true is bounds lengths =
-      let h = both (lengths_agree f) (bounds_agree f) is in
+      let h = both (lengths_agree f) (bounds_agree s f) is in
       record { bounds = bounds; lengths_apply = lengths; lengths_agree = h.0; bounds_agree = h.1 }
   agreeing_fit s at f false is bounds lengths = none_fit s
 

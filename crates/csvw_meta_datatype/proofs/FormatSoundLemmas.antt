@@ -216,6 +216,7 @@ as_whole (Some (formats.Truth f)) h = absurd h
 as_whole (Some (formats.Day f)) h = absurd h
 as_whole (Some (formats.Moment f)) h = absurd h
 as_whole (Some (formats.Time f)) h = absurd h
+as_whole (Some (formats.Stamp f)) h = absurd h
 as_whole (Some (formats.Expression e)) h = h
 
 as_floating : (t : Floating) (o : Option Format) → IsOfNumbers o → IsFormatOf (simples.Floating t) o
@@ -225,6 +226,7 @@ as_floating t (Some (formats.Truth f)) h = absurd h
 as_floating t (Some (formats.Day f)) h = absurd h
 as_floating t (Some (formats.Moment f)) h = absurd h
 as_floating t (Some (formats.Time f)) h = absurd h
+as_floating t (Some (formats.Stamp f)) h = absurd h
 as_floating t (Some (formats.Expression e)) h = h
 
 -- ---- expressions

@@ -1,19 +1,15 @@
--- The format of a pattern, by the other form of `of`.
-use Rattle.std.proofs.Common.{◌≡◌, ◌≢◌, MatchOption, ℕ, List, [], ◌∷◌, Option, Some, None, Bool, true, false, refl, sym, ap, ◌∙◌, ◌++◌, ◌==◌, ◌||◌, bytes_eq}
+-- In the profile core a pattern with a space is none.
+use Rattle.std.proofs.Common.{◌≡◌, ◌≢◌, ℕ, List, [], ◌∷◌, Option, Some, None, Bool, true, false, refl, sym, ap, ◌∙◌, ◌++◌, ◌==◌, ◌||◌, bytes_eq}
 use Rattle.std.specs.List.{list_any}
 use Rattle.std.proofs.lemmas.Slice.Eq.{bytes_eq-Decides}
-use Rattle.csvw_datatype_core.specs.declared.date.Separator.TheVariants.{Dash, Slash, Dot}
-use Rattle.csvw_datatype_core.specs.declared.date.FieldDigits.TheVariants.{Two, OneOrTwo}
 use Rattle.csvw_datatype_core.specs.declared.date.DateFormat.{DateFormat}
-use Rattle.csvw_datatype_core.specs.declared.date.DateFormat.TheVariants.{YearFirst, Compact, DayFirst, MonthFirst}
 use Rattle.csvw_datatype_core.specs.declared.moment.MomentFormat.{MomentFormat}
 use Rattle.csvw_datatype_core.specs.declared.moment.MomentFormat.TheVariants.{Seconds, Minutes, Spaced}
 use Rattle.csvw_datatype_core.specs.declared.time.TimeFormat.{TimeFormat}
-use Rattle.csvw_datatype_core.specs.declared.time.TimeFormat.TheVariants as times
 use Rattle.csvw_datatype_core.specs.DatePatterns.{date_pattern, moment_pattern}
+use Rattle.csvw_datatype_core.specs.PatternLists.{patterned_in}
 use Rattle.csvw_datatype_core.specs.Times.{time_pattern}
-use Rattle.csvw_meta_core.specs.declared.profile.Profile.TheVariants.{Core, W3c}
-use Rattle.csvw_meta_datatype.specs.Patterns.{date_formats, moment_formats, time_formats, patterned_in, date_format_of, moment_format_of, time_format_of}
+use Rattle.csvw_meta_datatype.specs.Patterns.{core_format_of, core_formats}
 
 unequal : (b : Bool) → (b ≡ true → ⊥) → b ≡ false
 unequal true h = absurd (h refl)
@@ -25,105 +21,6 @@ differs a b h = unequal (bytes_eq a b) (λ e. h ((bytes_eq-Decides a b).0 e))
 none_in : {F : Type 0} (pattern_of : F → List ℕ) (text : List ℕ) → ((f : F) → text ≢ pattern_of f) → (fs : List F) → patterned_in pattern_of fs text ≡ None
 none_in pattern_of text h [] = refl
 none_in pattern_of text h (f ∷ fs) = rw (differs text (pattern_of f) (h f)) (none_in pattern_of text h fs)
-
-one_date : (text : List ℕ) (f : DateFormat) → text ≡ date_pattern f → date_format_of text ≡ Some f
-one_date text YearFirst e = rw e refl
-one_date text Compact e = rw e refl
-one_date text (DayFirst Two Dash) e = rw e refl
-one_date text (DayFirst Two Slash) e = rw e refl
-one_date text (DayFirst Two Dot) e = rw e refl
-one_date text (DayFirst OneOrTwo Dash) e = rw e refl
-one_date text (DayFirst OneOrTwo Slash) e = rw e refl
-one_date text (DayFirst OneOrTwo Dot) e = rw e refl
-one_date text (MonthFirst Two Dash) e = rw e refl
-one_date text (MonthFirst Two Slash) e = rw e refl
-one_date text (MonthFirst Two Dot) e = rw e refl
-one_date text (MonthFirst OneOrTwo Dash) e = rw e refl
-one_date text (MonthFirst OneOrTwo Slash) e = rw e refl
-one_date text (MonthFirst OneOrTwo Dot) e = rw e refl
-
-one_moment : (text : List ℕ) (f : MomentFormat) → text ≡ moment_pattern f → moment_format_of W3c text ≡ Some f
-one_moment text Seconds e = rw e refl
-one_moment text Minutes e = rw e refl
-one_moment text (Spaced YearFirst times.Seconds) e = rw e refl
-one_moment text (Spaced YearFirst times.CompactSeconds) e = rw e refl
-one_moment text (Spaced YearFirst times.Minutes) e = rw e refl
-one_moment text (Spaced YearFirst times.CompactMinutes) e = rw e refl
-one_moment text (Spaced Compact times.Seconds) e = rw e refl
-one_moment text (Spaced Compact times.CompactSeconds) e = rw e refl
-one_moment text (Spaced Compact times.Minutes) e = rw e refl
-one_moment text (Spaced Compact times.CompactMinutes) e = rw e refl
-one_moment text (Spaced (DayFirst Two Dash) times.Seconds) e = rw e refl
-one_moment text (Spaced (DayFirst Two Dash) times.CompactSeconds) e = rw e refl
-one_moment text (Spaced (DayFirst Two Dash) times.Minutes) e = rw e refl
-one_moment text (Spaced (DayFirst Two Dash) times.CompactMinutes) e = rw e refl
-one_moment text (Spaced (DayFirst Two Slash) times.Seconds) e = rw e refl
-one_moment text (Spaced (DayFirst Two Slash) times.CompactSeconds) e = rw e refl
-one_moment text (Spaced (DayFirst Two Slash) times.Minutes) e = rw e refl
-one_moment text (Spaced (DayFirst Two Slash) times.CompactMinutes) e = rw e refl
-one_moment text (Spaced (DayFirst Two Dot) times.Seconds) e = rw e refl
-one_moment text (Spaced (DayFirst Two Dot) times.CompactSeconds) e = rw e refl
-one_moment text (Spaced (DayFirst Two Dot) times.Minutes) e = rw e refl
-one_moment text (Spaced (DayFirst Two Dot) times.CompactMinutes) e = rw e refl
-one_moment text (Spaced (DayFirst OneOrTwo Dash) times.Seconds) e = rw e refl
-one_moment text (Spaced (DayFirst OneOrTwo Dash) times.CompactSeconds) e = rw e refl
-one_moment text (Spaced (DayFirst OneOrTwo Dash) times.Minutes) e = rw e refl
-one_moment text (Spaced (DayFirst OneOrTwo Dash) times.CompactMinutes) e = rw e refl
-one_moment text (Spaced (DayFirst OneOrTwo Slash) times.Seconds) e = rw e refl
-one_moment text (Spaced (DayFirst OneOrTwo Slash) times.CompactSeconds) e = rw e refl
-one_moment text (Spaced (DayFirst OneOrTwo Slash) times.Minutes) e = rw e refl
-one_moment text (Spaced (DayFirst OneOrTwo Slash) times.CompactMinutes) e = rw e refl
-one_moment text (Spaced (DayFirst OneOrTwo Dot) times.Seconds) e = rw e refl
-one_moment text (Spaced (DayFirst OneOrTwo Dot) times.CompactSeconds) e = rw e refl
-one_moment text (Spaced (DayFirst OneOrTwo Dot) times.Minutes) e = rw e refl
-one_moment text (Spaced (DayFirst OneOrTwo Dot) times.CompactMinutes) e = rw e refl
-one_moment text (Spaced (MonthFirst Two Dash) times.Seconds) e = rw e refl
-one_moment text (Spaced (MonthFirst Two Dash) times.CompactSeconds) e = rw e refl
-one_moment text (Spaced (MonthFirst Two Dash) times.Minutes) e = rw e refl
-one_moment text (Spaced (MonthFirst Two Dash) times.CompactMinutes) e = rw e refl
-one_moment text (Spaced (MonthFirst Two Slash) times.Seconds) e = rw e refl
-one_moment text (Spaced (MonthFirst Two Slash) times.CompactSeconds) e = rw e refl
-one_moment text (Spaced (MonthFirst Two Slash) times.Minutes) e = rw e refl
-one_moment text (Spaced (MonthFirst Two Slash) times.CompactMinutes) e = rw e refl
-one_moment text (Spaced (MonthFirst Two Dot) times.Seconds) e = rw e refl
-one_moment text (Spaced (MonthFirst Two Dot) times.CompactSeconds) e = rw e refl
-one_moment text (Spaced (MonthFirst Two Dot) times.Minutes) e = rw e refl
-one_moment text (Spaced (MonthFirst Two Dot) times.CompactMinutes) e = rw e refl
-one_moment text (Spaced (MonthFirst OneOrTwo Dash) times.Seconds) e = rw e refl
-one_moment text (Spaced (MonthFirst OneOrTwo Dash) times.CompactSeconds) e = rw e refl
-one_moment text (Spaced (MonthFirst OneOrTwo Dash) times.Minutes) e = rw e refl
-one_moment text (Spaced (MonthFirst OneOrTwo Dash) times.CompactMinutes) e = rw e refl
-one_moment text (Spaced (MonthFirst OneOrTwo Slash) times.Seconds) e = rw e refl
-one_moment text (Spaced (MonthFirst OneOrTwo Slash) times.CompactSeconds) e = rw e refl
-one_moment text (Spaced (MonthFirst OneOrTwo Slash) times.Minutes) e = rw e refl
-one_moment text (Spaced (MonthFirst OneOrTwo Slash) times.CompactMinutes) e = rw e refl
-one_moment text (Spaced (MonthFirst OneOrTwo Dot) times.Seconds) e = rw e refl
-one_moment text (Spaced (MonthFirst OneOrTwo Dot) times.CompactSeconds) e = rw e refl
-one_moment text (Spaced (MonthFirst OneOrTwo Dot) times.Minutes) e = rw e refl
-one_moment text (Spaced (MonthFirst OneOrTwo Dot) times.CompactMinutes) e = rw e refl
-
-one_time : (text : List ℕ) (f : TimeFormat) → text ≡ time_pattern f → time_format_of text ≡ Some f
-one_time text times.Seconds e = rw e refl
-one_time text times.CompactSeconds e = rw e refl
-one_time text times.Minutes e = rw e refl
-one_time text times.CompactMinutes e = rw e refl
-
-pub date_as : (text : List ℕ) (o : Option DateFormat) → MatchOption o ((f : DateFormat) → text ≢ date_pattern f) (λ f. text ≡ date_pattern f)
-    → o ≡ date_format_of text
-date_as text None h = sym (none_in date_pattern text h date_formats)
-date_as text (Some f) h = sym (one_date text f h)
-
-pub moment_as : (text : List ℕ) (o : Option MomentFormat) → MatchOption o ((f : MomentFormat) → text ≢ moment_pattern f) (λ f. text ≡ moment_pattern f)
-    → o ≡ moment_format_of W3c text
-moment_as text None h = sym (none_in moment_pattern text h (moment_formats W3c))
-moment_as text (Some f) h = sym (one_moment text f h)
-
-pub time_as : (text : List ℕ) (o : Option TimeFormat) → MatchOption o ((f : TimeFormat) → text ≢ time_pattern f) (λ f. text ≡ time_pattern f)
-    → o ≡ time_format_of text
-time_as text None h = sym (none_in time_pattern text h time_formats)
-time_as text (Some f) h = sym (one_time text f h)
-
--- ---- in the profile core, a pattern with a space is none
 
 or_true : (a : Bool) → (a || true) ≡ true
 or_true true = refl
@@ -142,7 +39,7 @@ other_pattern : (text pattern front rest : List ℕ) → text ≡ front ++ (32 �
 other_pattern text pattern front rest spaced free same =
     let e : true ≡ false = sym (any_space front rest) ∙ ap has_space (sym spaced ∙ same) ∙ free in cc
 
-pub no_core_moment : (text : List ℕ) (date : DateFormat) (time : TimeFormat) → text ≡ moment_pattern (Spaced date time) → None ≡ moment_format_of Core text
+pub no_core_moment : (text : List ℕ) (date : DateFormat) (time : TimeFormat) → text ≡ moment_pattern (Spaced date time) → None ≡ core_format_of text
 no_core_moment text date time e =
     let front = date_pattern date in
     let rest = time_pattern time in
@@ -150,11 +47,11 @@ no_core_moment text date time e =
     let b = differs text (moment_pattern Minutes) (other_pattern text (moment_pattern Minutes) front rest e refl) in
     rw (a, b) refl
 
-pub core_seconds : (text : List ℕ) → text ≡ moment_pattern Seconds → Some Seconds ≡ moment_format_of Core text
+pub core_seconds : (text : List ℕ) → text ≡ moment_pattern Seconds → Some Seconds ≡ core_format_of text
 core_seconds text e = rw e refl
 
-pub core_minutes : (text : List ℕ) → text ≡ moment_pattern Minutes → Some Minutes ≡ moment_format_of Core text
+pub core_minutes : (text : List ℕ) → text ≡ moment_pattern Minutes → Some Minutes ≡ core_format_of text
 core_minutes text e = rw e refl
 
-pub no_core_format : (text : List ℕ) → ((f : MomentFormat) → text ≢ moment_pattern f) → None ≡ moment_format_of Core text
-no_core_format text h = sym (none_in moment_pattern text h (moment_formats Core))
+pub no_core_format : (text : List ℕ) → ((f : MomentFormat) → text ≢ moment_pattern f) → None ≡ core_format_of text
+no_core_format text h = sym (none_in moment_pattern text h core_formats)

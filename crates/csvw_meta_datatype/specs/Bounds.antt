@@ -5,39 +5,30 @@ use Rattle.serde_json.specs.Find.{as_integer}
 use Rattle.csvw_datatype.specs.declared.value.Value.{Value}
 use Rattle.csvw_datatype.specs.declared.simple.Simple.{Simple}
 use Rattle.csvw_datatype.specs.declared.simple.Simple.TheVariants as simples
-use Rattle.csvw_datatype.specs.declared.simple.TextType.TheVariants as types
 use Rattle.csvw_datatype.specs.Bounds.{bound_of, bound_of_whole}
-use Rattle.csvw_meta_core.specs.declared.fault.MetaCode.{MetaCode}
-use Rattle.csvw_meta_core.specs.declared.fault.MetaCode.TheVariants.{BadDatatype, NotSupported}
+use Rattle.csvw_datatype.specs.Strings.{is_ordered}
+use Rattle.csvw_meta_core.specs.declared.fault.MetaCode.TheVariants.{BadDatatype}
 use Rattle.csvw_meta_core.specs.Read.{Read, fine, faulty, ◌>>=◌, wrong, property}
 use Rattle.csvw_meta_datatype.specs.declared.bounds.Bounds.{Bounds}
 
--- a bound that can't be read, or is on a type without an order, is wrong; one of times of day, of moments with zones, of parts of
--- dates or of durations isn't supported
-abbrev pub no_bound : Simple → MetaCode
-no_bound (simples.Other types.Time) = NotSupported
-no_bound (simples.Other (types.DateTime zone)) = NotSupported
-no_bound (simples.Other (types.Part p)) = NotSupported
-no_bound (simples.Other (types.Duration k)) = NotSupported
-no_bound _ = BadDatatype
+abbrev pub bound_found : List ℕ → Option Value → Read (Option Value)
+bound_found at None = faulty BadDatatype at None
+bound_found at (Some v) = fine (Some v)
 
-abbrev pub bound_found : Simple → List ℕ → Option Value → Read (Option Value)
-bound_found s at None = faulty (no_bound s) at None
-bound_found s at (Some v) = fine (Some v)
-
--- the values are days or moments, whose bounds are only texts
+-- the values are days, moments, times, parts of dates or durations, whose bounds are only texts
 abbrev pub is_dated : Simple → Bool
 is_dated simples.Day = true
 is_dated simples.Moment = true
+is_dated (simples.Other t) = is_ordered t
 is_dated _ = false
 
 abbrev pub bound_of_integer : Simple → List ℕ → Data → Option ℤ → Read (Option Value)
 bound_of_integer s at d None = wrong at d None
-bound_of_integer s at d (Some z) = if is_dated s then wrong at d None else bound_found s at (bound_of_whole s z)
+bound_of_integer s at d (Some z) = if is_dated s then wrong at d None else bound_found at (bound_of_whole s z)
 
 -- a text in the default format of the type, or a whole number
 abbrev pub bound : Simple → List ℕ → Data → Read (Option Value)
-bound s at (string text) = bound_found s at (bound_of s text)
+bound s at (string text) = bound_found at (bound_of s text)
 bound s at (number n) = bound_of_integer s at (number n) (as_integer n)
 bound s at null = wrong at null None
 bound s at (boolean b) = wrong at (boolean b) None

@@ -32,6 +32,6 @@ each_facet s at d = do
   bounds ← bounds s at d
   fine (together lengths bounds)
 
--- Facets agree if none excludes what another requires. A facet that can't be read counts as missing and requires nothing.
+-- Facets of a type agree if none excludes what another requires. A facet that can't be read counts as missing and requires nothing.
 abbrev pub facets : Simple → List ℕ → Data → Read Facets
-facets s at d = each_facet s at d >>= (λ f. if agree f then fine f else faulty BadDatatype at no_facets)
+facets s at d = each_facet s at d >>= (λ f. if agree s f then fine f else faulty BadDatatype at no_facets)

@@ -8,4 +8,4 @@ pub record FacetsFit (s : Simple) (f : Facets) : Type 0 where
   pub bounds : AreBoundsOf s f
   pub lengths_apply : lengths_apply s f ≡ true
   pub lengths_agree : lengths_agree f ≡ true
-  pub bounds_agree : bounds_agree f ≡ true
+  pub bounds_agree : bounds_agree s f ≡ true

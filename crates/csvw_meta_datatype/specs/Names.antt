@@ -1,8 +1,8 @@
 -- The names of built-in datatypes, and the properties that are listed for a datatype (Metadata Vocabulary for Tabular Data, sections
 -- 5.11.1 and 5.11.2).
-use Rattle.std.specs.Prelude.{ℕ, List, [], ◌∷◌, Bool, true, false, codes, bytes_eq, filter, if◌then◌else◌, Option, Some, None}
+use Rattle.std.specs.Prelude.{ℕ, List, [], ◌∷◌, Bool, true, false, codes, bytes_eq, filter, map, if◌then◌else◌, Option, Some, None}
 use Rattle.csvw_datatype_core.specs.declared.date_part.DatePart.TheVariants.{Year, YearMonth, Month, MonthDay, Day as DayOfMonth}
-use Rattle.csvw_datatype_core.specs.declared.date_time.Zone.TheVariants.{Required}
+use Rattle.csvw_datatype_core.specs.declared.date_time.Zone.TheVariants.{Optional, Required}
 use Rattle.csvw_binary.specs.declared.binary.BinaryForm.TheVariants.{Hex, Base64}
 use Rattle.csvw_duration.specs.declared.value.DurationKind.TheVariants.{Any as AnyDuration, YearMonth as YearMonthDuration, DayTime}
 use Rattle.csvw_datatype.specs.declared.simple.Simple.{Simple}
@@ -14,7 +14,7 @@ use Rattle.csvw_datatype.specs.declared.simple.Width.TheVariants.{Long, Int, Sho
 use Rattle.csvw_datatype.specs.declared.simple.Width.TheVariants.{NonNegativeInteger, PositiveInteger, NonPositiveInteger, NegativeInteger}
 use Rattle.csvw_datatype.specs.Names.{name_of}
 use Rattle.csvw_meta_core.specs.declared.profile.Profile.{Profile}
-use Rattle.csvw_meta_core.specs.declared.profile.Profile.TheVariants.{Core}
+use Rattle.csvw_meta_core.specs.declared.profile.Profile.TheVariants.{Core, W3c}
 
 -- the built-in datatypes of all profiles
 abbrev pub all_simples : List Simple
@@ -47,12 +47,18 @@ is_in Core (Other t) = false
 is_in Core (Floating t) = false
 is_in profile s = true
 
+-- in the profile w3c a dateTime may have a zone and parts of a second
+abbrev pub with_zones : Profile → Simple → Simple
+with_zones W3c Moment = Other (DateTime Optional)
+with_zones profile s = s
+
+-- the built-in datatypes of a profile
 abbrev pub simples_of : Profile → List Simple
-simples_of profile = filter (is_in profile) all_simples
+simples_of profile = map (with_zones profile) (filter (is_in profile) all_simples)
 
 abbrev pub kept_in : Profile → Option Simple → Option Simple
 kept_in profile None = None
-kept_in profile (Some s) = if is_in profile s then Some s else None
+kept_in profile (Some s) = if is_in profile s then Some (with_zones profile s) else None
 
 -- the type of a name that a document in the profile may use
 abbrev pub named_of : Profile → List ℕ → Option Simple

@@ -1,9 +1,9 @@
 //! The names of built-in datatypes (Metadata Vocabulary for Tabular Data, section 5.11.1).
 ghost use Rattle.std.specs.Prelude.{◌≡◌};
-ghost use Rattle.csvw_meta_datatype.specs.Names.{is_in, kept_in, named_of, type_named};
+ghost use Rattle.csvw_meta_datatype.specs.Names.{is_in, kept_in, named_of, type_named, with_zones};
 ghost use Rattle.csvw_meta_datatype.specs.Base.{base};
 
-use csvw_datatype::Simple;
+use csvw_datatype::{Simple, TextType, Zone};
 use csvw_meta_core::{MetaCode, Part, Profile, Reader, Refusal};
 
 /// Returns whether a document in a profile may use a type.
@@ -13,6 +13,16 @@ pub fn is_in(profile: Profile, simple: Simple) -> bool
     match (profile, simple) {
         (Profile::Core, Simple::Other(_) | Simple::Floating(_)) => false,
         (Profile::Core | Profile::W3c, _) => true,
+    }
+}
+
+/// Returns a type as a document in a profile uses it: in the profile w3c a `dateTime` may have a zone and parts of a second.
+pub fn with_zones(profile: Profile, simple: Simple) -> Simple
+    ensures { result ≡ with_zones profile simple }
+{
+    match (profile, simple) {
+        (Profile::W3c, Simple::Moment) => Simple::Other(TextType::DateTime(Zone::Optional)),
+        (Profile::Core | Profile::W3c, _) => simple,
     }
 }
 
@@ -27,7 +37,7 @@ fn kept_in(profile: Profile, found: Option<Simple>) -> Option<Simple>
     ensures { result ≡ kept_in profile found }
 {
     match found {
-        Some(simple) if is_in(profile, simple) => Some(simple),
+        Some(simple) if is_in(profile, simple) => Some(with_zones(profile, simple)),
         _ => None,
     }
 }

@@ -3,15 +3,14 @@ ghost use Rattle.std.specs.Prelude.{◌≡◌};
 ghost use Rattle.serde_json.specs.View.{view};
 ghost use Rattle.csvw_meta_core.specs.Pointer.{text_of};
 ghost use Rattle.csvw_meta_core.specs.Reads.{Reads};
-ghost use Rattle.csvw_meta_datatype.specs.Bounds.{is_dated, bound, bound_found, bound_of_integer, bounds, no_bound};
+ghost use Rattle.csvw_meta_datatype.specs.Bounds.{is_dated, bound, bound_found, bound_of_integer, bounds};
 
-use csvw_datatype::{Simple, TextType, Value as Bound};
+use csvw_datatype::{Simple, Value as Bound};
 use csvw_meta_core::{MetaCode, Part, Reader, Refusal};
 use serde_json::Value;
 
 /// Reads a bound: a text in the default format of the type or, for a type of numbers, a whole number. It is
-/// `BadDatatype` if it is not a value of the type, or if the values of the type have no order. A bound of times of day, of
-/// moments with zones or of parts of dates is `NotSupported`.
+/// `BadDatatype` if it is not a value of the type, or if the values of the type have no order.
 #[derive(Drop)]
 pub struct BoundReader {
     /// The datatype's `base`.
@@ -25,33 +24,19 @@ impl Reader for BoundReader {
 
     fn read(&self, part: &Part) -> Result<Option<Bound>, Refusal> {
         match part.value {
-            Value::String(text) => {
-                bound_found(self.simple, part, self.simple.bound(part.alloc, text)?)
-            }
+            Value::String(text) => { bound_found(part, self.simple.bound(part.alloc, text)?) }
             Value::Number(number) => bound_of_integer(self.simple, part, number.as_i128()),
             _ => Err(part.wrong()),
         }
     }
 }
 
-/// Returns the code of a text or a number that is no bound of a type.
-fn no_bound(simple: Simple) -> MetaCode
-    ensures { result ≡ no_bound simple }
-{
-    match simple {
-        Simple::Other(
-            TextType::Time | TextType::DateTime(_) | TextType::Part(_) | TextType::Duration(_),
-        ) => MetaCode::NotSupported,
-        _ => MetaCode::BadDatatype,
-    }
-}
-
-fn bound_found(simple: Simple, part: &Part, bound: Option<Bound>) -> Result<Option<Bound>, Refusal>
-    ensures { Reads result (bound_found simple (text_of part.now.at) bound) }
+fn bound_found(part: &Part, bound: Option<Bound>) -> Result<Option<Bound>, Refusal>
+    ensures { Reads result (bound_found (text_of part.now.at) bound) }
 {
     match bound {
         Some(bound) => Ok(Some(bound)),
-        None => Err(part.refused(no_bound(simple))),
+        None => Err(part.refused(MetaCode::BadDatatype)),
     }
 }
 
@@ -64,17 +49,21 @@ fn bound_of_integer(
 {
     match integer {
         Some(integer) if !is_dated(simple) => {
-            bound_found(simple, part, simple.whole_bound(part.alloc, integer)?)
+            bound_found(part, simple.whole_bound(part.alloc, integer)?)
         }
         _ => Err(part.wrong()),
     }
 }
 
-/// Whether the values of a type are days or moments. Their bounds are only texts.
+/// Whether the values of a type are days, moments, times, parts of dates or durations. Their bounds are only texts.
 fn is_dated(simple: Simple) -> bool
     ensures { result ≡ is_dated simple }
 {
-    matches!(simple, Simple::Day | Simple::Moment)
+    match simple {
+        Simple::Day | Simple::Moment => true,
+        Simple::Other(text_type) => text_type.is_ordered(),
+        _ => false,
+    }
 }
 
 /// The bounds of a datatype. `None`: it does not have the bound.

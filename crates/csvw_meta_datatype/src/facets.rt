@@ -47,7 +47,7 @@ impl Reader for FacetsReader {
     #[tactic(auto, using(crate::proofs::ReadLemmas::fails_first))]
     fn read(&self, part: &Part) -> Result<Facets, Refusal> {
         let facets = each_facet(self.simple, part)?;
-        if !facets.agree() {
+        if !facets.agree(self.simple) {
             return Err(part.refused(MetaCode::BadDatatype));
         }
         Ok(facets)

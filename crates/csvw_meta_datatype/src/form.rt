@@ -5,12 +5,12 @@ ghost use Rattle.csvw_meta_core.specs.Pointer.{text_of};
 ghost use Rattle.csvw_meta_core.specs.Reads.{Reads};
 ghost use Rattle.csvw_meta_notes.specs.Unlisted.{unlisted};
 ghost use Rattle.csvw_meta_datatype.specs.Names.{datatype_names};
-ghost use Rattle.csvw_meta_datatype.specs.Datatypes.{based, form, named, of_type, with_zones};
+ghost use Rattle.csvw_meta_datatype.specs.Datatypes.{based, form, named, of_type};
 
 use crate::base::BaseReader;
 use crate::facets::FacetsReader;
 use crate::format::{FormatFound, FormatReader};
-use csvw_datatype::{Datatype, Facets, Format, Simple, TextType, Zone};
+use csvw_datatype::{Datatype, Facets, Simple};
 use csvw_iri::{Base, Iri};
 use csvw_meta_core::{Fixed, IdReader, Part, Profile, Reader, Refusal, joined};
 use csvw_meta_notes::{NoteContext, read_unlisted};
@@ -42,28 +42,15 @@ pub struct DatatypeFound {
     pub warnings: Seq<Fault>,
 }
 
-/// Returns the type of a datatype in a profile: with zones, if it is a `dateTime` of the profile w3c without a format and bounds.
-fn with_zones(profile: Profile, simple: Simple, format: &Option<Format>, facets: &Facets) -> Simple
-    ensures { result ≡ with_zones profile simple format.now facets.now }
+/// Returns the datatype of a name.
+pub(crate) fn named(simple: Simple) -> Datatype
+    ensures { result ≡ (named simple).datatype }
 {
-    match (profile, simple, format) {
-        (Profile::W3c, Simple::Moment, None) if !facets.has_bounds() => {
-            Simple::Other(TextType::DateTime(Zone::Optional))
-        }
-        _ => simple,
-    }
-}
-
-/// Returns the datatype of a name in a profile.
-pub(crate) fn named(profile: Profile, simple: Simple) -> Datatype
-    ensures { result ≡ (named profile simple).datatype }
-{
-    let facets = Facets::new();
     Datatype {
-        simple: with_zones(profile, simple, &None, &facets),
+        simple,
         id: None,
         format: None,
-        facets,
+        facets: Facets::new(),
     }
 }
 
@@ -102,7 +89,7 @@ fn read_of_type(
     let facets = FacetsReader { simple }.read(part)?;
     Ok(DatatypeFound {
         datatype: Datatype {
-            simple: with_zones(profile, simple, &found.format, &facets),
+            simple,
             id,
             format: found.format,
             facets,

@@ -4,12 +4,12 @@ ghost use Rattle.serde_json.specs.View.{view};
 ghost use Rattle.csvw_meta_core.specs.Pointer.{text_of};
 ghost use Rattle.csvw_meta_core.specs.Reads.{Reads};
 ghost use Rattle.csvw_meta_core.specs.Read.{under};
-ghost use Rattle.csvw_meta_datatype.specs.Formats.{expression_format, format_of_texts, number_format, number_found, text_format};
+ghost use Rattle.csvw_meta_datatype.specs.Formats.{expression_format, format_of_texts, found, number_format, number_found, text_format};
 ghost use Rattle.csvw_meta_datatype.specs.Numbers.{number_form};
 
 use crate::expression::ExpressionReader;
 use crate::number::{PLAIN, pattern_code, pattern_in, patterned, read_number_form};
-use crate::pattern::{DatePattern, MomentPattern, TimePattern};
+use crate::pattern::{ClockPattern, DatePattern, MomentPattern, StampPattern};
 use crate::truth::TruthPattern;
 use csvw_datatype::{Format, Simple, TextType};
 use csvw_meta_core::{MetaCode, Part, Profile, Reader, Refusal};
@@ -41,6 +41,16 @@ pub struct FormatReader {
     pub simple: Simple,
     /// The place of the warnings.
     pub place: Place,
+}
+
+/// Returns a format without warnings.
+fn found(part: &Part, format: Format) -> FormatFound
+    ensures { result ≡ found format }
+{
+    FormatFound {
+        format: Some(format),
+        warnings: Seq::new(part.alloc),
+    }
 }
 
 fn read_number_object(profile: Profile, place: Place, part: &Part) -> Result<FormatFound, Refusal>
@@ -100,13 +110,8 @@ fn read_format_of_texts(
     ensures { Reads result (format_of_texts profile text_type (text_of part.now.at) (view part.now.value.now)) }
 {
     match text_type {
-        TextType::Time => {
-            let format = TimePattern.read(part)?;
-            Ok(FormatFound {
-                format: Some(Format::Time(format)),
-                warnings: Seq::new(part.alloc),
-            })
-        }
+        TextType::Time => Ok(found(part, Format::Time(ClockPattern.read(part)?))),
+        TextType::DateTime(_) => Ok(found(part, Format::Stamp(StampPattern.read(part)?))),
         TextType::Any
         | TextType::Normalized
         | TextType::Token
@@ -119,7 +124,7 @@ fn read_format_of_texts(
         | TextType::Json
         | TextType::Binary(_)
         | TextType::Duration(_) => read_expression(profile, part),
-        TextType::DateTime(_) | TextType::Part(_) => Err(part.refused(MetaCode::NotSupported)),
+        TextType::Part(_) => Err(part.refused(MetaCode::NotSupported)),
     }
 }
 
@@ -140,14 +145,8 @@ impl Reader for FormatReader {
             }
             Simple::Truth => Format::Truth(TruthPattern.read(part)?),
             Simple::Day => Format::Day(DatePattern.read(part)?),
-            Simple::Moment => Format::Moment(MomentPattern {
-                profile: self.profile,
-            }
-            .read(part)?),
+            Simple::Moment => Format::Moment(MomentPattern.read(part)?),
         };
-        Ok(FormatFound {
-            format: Some(format),
-            warnings: Seq::new(part.alloc),
-        })
+        Ok(found(part, format))
     }
 }

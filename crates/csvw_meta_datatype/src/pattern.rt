@@ -1,46 +1,19 @@
 //! The patterns of dates, moments and times of day (Model for Tabular Data and Metadata on the Web, section 6.4.4).
 ghost use Rattle.std.specs.Prelude.{◌≡◌};
-ghost use Rattle.csvw_meta_core.specs.declared.profile.Profile.TheVariants.{Core, W3c};
-ghost use Rattle.csvw_meta_datatype.specs.Patterns.{date_format_of, moment_format_of, time_format_of, date_format, moment_format, time_format};
+ghost use Rattle.csvw_meta_datatype.specs.Patterns.{core_format_of, date_format, moment_format, stamp_format, clock_format};
 
-use csvw_datatype::{DateFormat, MomentFormat, TimeFormat};
-use csvw_meta_core::{MetaCode, Part, Profile, Reader, Refusal};
+use csvw_datatype::{ClockFormat, DateFormat, MomentFormat, StampFormat};
+use csvw_datatype_core::date_format_of;
+use csvw_meta_core::{MetaCode, Part, Reader, Refusal};
 
-fn date_format_of(pattern: &str) -> Option<DateFormat>
-    ensures { result ≡ date_format_of pattern.now }
-{
-    DateFormat::of(pattern)
-}
-
-fn any_moment_format(pattern: &str) -> Option<MomentFormat>
-    ensures { result ≡ moment_format_of W3c pattern.now }
-{
-    MomentFormat::of(pattern)
-}
-
-fn core_moment_format(pattern: &str) -> Option<MomentFormat>
-    ensures { result ≡ moment_format_of Core pattern.now }
+fn core_format_of(pattern: &str) -> Option<MomentFormat>
+    ensures { result ≡ core_format_of pattern.now }
 {
     match MomentFormat::of(pattern)? {
         MomentFormat::Seconds => Some(MomentFormat::Seconds),
         MomentFormat::Minutes => Some(MomentFormat::Minutes),
         MomentFormat::Spaced(..) => None,
     }
-}
-
-fn moment_format_of(profile: Profile, pattern: &str) -> Option<MomentFormat>
-    ensures { result ≡ moment_format_of profile pattern.now }
-{
-    match profile {
-        Profile::Core => core_moment_format(pattern),
-        Profile::W3c => any_moment_format(pattern),
-    }
-}
-
-fn time_format_of(pattern: &str) -> Option<TimeFormat>
-    ensures { result ≡ time_format_of pattern.now }
-{
-    TimeFormat::of(pattern)
 }
 
 /// Reads the pattern of a date. A pattern that is not one of the fourteen is `NotSupported`.
@@ -63,44 +36,62 @@ impl Reader for DatePattern {
     }
 }
 
-/// Reads the pattern of a date with a time of day. A pattern that is not one of the profile's is `NotSupported`.
+/// Reads the pattern of a date with a time of day in the profile core. A pattern that is not one of the two with a `T` is
+/// `NotSupported`.
 #[derive(Drop)]
-pub struct MomentPattern {
-    /// The profile. `Core` has two patterns, those with a `T`. `W3c` also has each pattern of a date, one space, and each
-    /// pattern of a time of day.
-    pub profile: Profile,
-}
+pub struct MomentPattern;
 
 impl Reader for MomentPattern {
     type Output = MomentFormat;
 
-    ghost reads = { λ r. moment_format r.profile };
+    ghost reads = { λ _. moment_format };
 
     fn read(&self, part: &Part) -> Result<MomentFormat, Refusal> {
         let Some(pattern) = part.value.as_str() else {
             return Err(part.wrong());
         };
-        match moment_format_of(self.profile, pattern) {
+        match core_format_of(pattern) {
             Some(format) => Ok(format),
             None => Err(part.refused(MetaCode::NotSupported)),
         }
     }
 }
 
-/// Reads the pattern of a time of day. A pattern that is not one of the four is `NotSupported`.
+/// Reads the pattern of a date with a time of day that may have parts of a second and a zone. Another pattern is
+/// `NotSupported`.
 #[derive(Drop)]
-pub struct TimePattern;
+pub struct StampPattern;
 
-impl Reader for TimePattern {
-    type Output = TimeFormat;
+impl Reader for StampPattern {
+    type Output = StampFormat;
 
-    ghost reads = { λ _. time_format };
+    ghost reads = { λ _. stamp_format };
 
-    fn read(&self, part: &Part) -> Result<TimeFormat, Refusal> {
+    fn read(&self, part: &Part) -> Result<StampFormat, Refusal> {
         let Some(pattern) = part.value.as_str() else {
             return Err(part.wrong());
         };
-        match time_format_of(pattern) {
+        match StampFormat::of(pattern) {
+            Some(format) => Ok(format),
+            None => Err(part.refused(MetaCode::NotSupported)),
+        }
+    }
+}
+
+/// Reads the pattern of a time of day that may have parts of a second. Another pattern is `NotSupported`.
+#[derive(Drop)]
+pub struct ClockPattern;
+
+impl Reader for ClockPattern {
+    type Output = ClockFormat;
+
+    ghost reads = { λ _. clock_format };
+
+    fn read(&self, part: &Part) -> Result<ClockFormat, Refusal> {
+        let Some(pattern) = part.value.as_str() else {
+            return Err(part.wrong());
+        };
+        match ClockFormat::of(pattern) {
             Some(format) => Ok(format),
             None => Err(part.refused(MetaCode::NotSupported)),
         }

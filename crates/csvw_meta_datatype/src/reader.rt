@@ -34,7 +34,7 @@ impl<'a> Reader for DatatypeReader<'a> {
                 }
                 .read(part)?;
                 Ok(DatatypeFound {
-                    datatype: named(self.profile, simple),
+                    datatype: named(simple),
                     warnings: Seq::new(part.alloc),
                 })
             }

@@ -2,7 +2,7 @@
 use Rattle.std.proofs.Common.{ap, ◌∙◌}
 use Rattle.csvw_datatype_core.specs.DatePatterns.{moment_pattern}
 use Rattle.csvw_meta_datatype.proofs.PatternLemmas.{core_minutes, core_seconds, no_core_format, no_core_moment}
-use Rattle.csvw_meta_datatype.proofs.pattern.core_moment_format.Goals as goal
+use Rattle.csvw_meta_datatype.proofs.pattern.core_format_of.Goals as goal
 
 pub returns-in_err-of : goal.returns-in_err-of
 returns-in_err-of c = c.from_residual.ensures ∙ no_core_format c.args.pattern.now c.in_err-of.ensures
