@@ -10,12 +10,15 @@ use Rattle.url.specs.Parts.{Parts}
 use Rattle.csvw_fault.specs.declared.fault.Fault.{Fault}
 use Rattle.csvw_iri.specs.Link.{iri_of}
 use Rattle.csvw_description.specs.declared.description.Description.{Description}
+use Rattle.csvw_description.specs.declared.schema.Schema.{Schema}
 use Rattle.csvw_description.specs.Plannable.{HasSound, IsFitDialect, IsFitSchema, IsFitTable, IsPlannable}
 use Rattle.csvw_meta_core.specs.declared.fault.MetaCode.TheVariants.{DuplicateTable}
 use Rattle.csvw_meta_core.specs.Pointer.{below, item_at}
 use Rattle.csvw_meta_core.specs.Read.{optional, property, needed}
 use Rattle.csvw_meta_core.specs.Kinds.{fixed, truth}
 use Rattle.csvw_meta_core.specs.Links.{id, no_url, url}
+use Rattle.csvw_meta_keys.specs.declared.keys.KeysFound.{KeysFound}
+use Rattle.csvw_meta_keys.specs.declared.naming.Target.{Target}
 use Rattle.csvw_meta_keys.specs.Naming.{all_known}
 use Rattle.csvw_meta_notes.specs.Unlisted.{all_notes, all_warnings}
 use Rattle.csvw_meta.specs.declared.body.Body.{Body}
@@ -33,6 +36,7 @@ use Rattle.csvw_meta_core.specs.declared.profile.Profile.TheVariants.{Core}
 use Rattle.csvw_meta_dialect.specs.Dialect.{dialect}
 use Rattle.csvw_meta.specs.Described.{described, parts, sole_table, within}
 use Rattle.csvw_meta.specs.Document.{Document, document_by, group_in, judged, length_of, of_bytes, of_json, of_short, own_url, plain_description}
+use Rattle.csvw_meta.specs.ForeignKeys.{linked, linked_table}
 use Rattle.csvw_meta.specs.Group.{description_of, group, no_group, tables, url_faults, url_of}
 use Rattle.csvw_meta_core.specs.Fine.{Ensures, none_in_both, not_none, if_fine, also_fine}
 use Rattle.csvw_meta_inherited.specs.Inherited.{inherited}
@@ -106,9 +110,24 @@ record IsFitGroup (g : GroupFound) : Type 0 where
   pub body : IsFitBody g.body
   pub tables : AreFitTables g.tables
 
-same_urls : (ts : List TableFound) → map url_of ts ≡ map (λ t. iri_of t.url) (map (λ t. t.table) ts)
-same_urls [] = refl
-same_urls (t ∷ ts) = ap (λ us. url_of t ∷ us) (same_urls ts)
+same_urls : (targets : List Target) (ts : List TableFound) → map url_of ts ≡ map (λ t. iri_of t.url) (map (linked_table targets) ts)
+same_urls targets [] = refl
+same_urls targets (t ∷ ts) = ap (λ us. url_of t ∷ us) (same_urls targets ts)
+
+-- Its foreign keys don't matter.
+linked_fit : (targets : List Target) (schema : Option Schema) (keys : Option KeysFound) → IfSome schema IsFitSchema
+    → IfSome (linked targets schema keys) IsFitSchema
+linked_fit targets None keys fit = tt
+linked_fit targets (Some schema) None fit = fit
+linked_fit targets (Some schema) (Some keys) fit =
+    record { limit = fit.limit; inherited = fit.inherited; datatypes = fit.datatypes; names = fit.names }
+
+table_fit : (targets : List Target) (t : TableFound) → IsFitTableFound t → IsFitTable (linked_table targets t)
+table_fit targets t fit = record {
+  dialect = fit.table.dialect;
+  inherited = fit.table.inherited;
+  schema = linked_fit targets t.table.schema t.keys fit.table.schema;
+}
 
 -- What a group describes whose keys name what is there can be planned by.
 plannable : (place : ℕ → List ℕ) (at : List ℕ) (g : GroupFound) → IsFitGroup g → reference_faults place at [] g ≡ [] → IsPlannable (description_of g)
@@ -119,12 +138,12 @@ plannable place at g fit h =
     record {
       dialect = fit.dialect;
       inherited = fit.body.inherited;
-      schema = fit.body.schema;
-      limit = omega (arith, count, length-map g.tables (λ t. t.table));
+      schema = linked_fit (targets g) g.body.schema g.body.keys fit.body.schema;
+      limit = omega (arith, count, length-map g.tables (linked_table (targets g)));
       tables =
-          All-map IsFitTable (λ (t : TableFound). t.table) g.tables
-          (All-weaker IsFitTableFound (λ t. IsFitTable t.table) (λ t f. f.table) g.tables tables);
-      urls = subst (AllPairs (λ x y. x ≢ y)) (same_urls g.tables) fit.tables.urls;
+          All-map IsFitTable (linked_table (targets g)) g.tables
+          (All-weaker IsFitTableFound (λ t. IsFitTable (linked_table (targets g) t)) (table_fit (targets g)) g.tables tables);
+      urls = subst (AllPairs (λ x y. x ≢ y)) (same_urls (targets g) g.tables) fit.tables.urls;
       keys = schema_resolves g g.body.schema g.body.keys fit.body.keys parts.0;
       table_keys =
           tables_resolve g 0 g.tables (All-weaker IsFitTableFound (λ t. DescribesAny t.table.schema t.keys) (λ t f. f.keys) g.tables tables) parts.1;

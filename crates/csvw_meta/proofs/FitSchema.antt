@@ -1,6 +1,6 @@
 -- A schema in a document without faults has no more columns than the limit, and no two columns of the same name.
 use Rattle.std.proofs.Common.{◌≡◌, ◌≢◌, ◌≤◌, ◌+◌, ℕ, List, [], ◌∷◌, ◌++◌, ◌||◌, Bool, true, false, refl, sym, ap, ◌∙◌, subst, arith, length, append_assoc}
-use Rattle.std.proofs.Common.{All, AllPairs, map, IfSome, Option, Some, None, bytes_eq, codes, if◌then◌else◌}
+use Rattle.std.proofs.Common.{All, AllPairs, IfSome, Option, Some, None, bytes_eq, codes, if◌then◌else◌}
 use Rattle.std.specs.List.{list_any}
 use Rattle.std.proofs.lemmas.List.Elements.{All-cons, All-head, All-tail}
 use Rattle.std.proofs.lemmas.List.Folds.{list_any-append}
@@ -25,7 +25,7 @@ use Rattle.csvw_meta_notes.specs.Unlisted.{unlisted}
 use Rattle.csvw_meta_datatype.specs.declared.form.DatatypeFound.{DatatypeFound}
 use Rattle.csvw_meta_datatype.specs.Datatypes.{datatype}
 use Rattle.csvw_meta_keys.specs.declared.keys.KeysFound.{KeysFound}
-use Rattle.csvw_meta_keys.specs.Described.{names_of, described}
+use Rattle.csvw_meta_keys.specs.Described.{names_of}
 use Rattle.csvw_meta_keys.specs.Keys.{keys}
 use Rattle.csvw_meta_core.specs.declared.context.Context.{Context}
 use Rattle.csvw_meta_core.specs.declared.profile.Profile.{Profile}
@@ -141,10 +141,9 @@ titled_fit names cs fits = record {
 
 -- ---- columns and schemas
 
--- The schema describes the keys that are found in it.
-pub record Describes (schema : Schema) (keys : KeysFound) : Type 0 where
-  pub primary_key : schema.primary_key ≡ names_of keys.primary
-  pub foreign_keys : schema.foreign_keys ≡ map described keys.foreign
+-- The schema has the primary key that is found in it.
+abbrev pub Describes : Schema → KeysFound → Type 0
+Describes schema keys = schema.primary_key ≡ names_of keys.primary
 
 pub record IsFitFound (found : SchemaFound) : Type 0 where
   pub schema : IsFitSchema found.schema
@@ -191,7 +190,8 @@ module _ (datatypes : DatatypesFit) where
       let p3 = none_in_both (unlisted context.base context.language (schema_names ++ inherited_names) (place_of table 0) at d).faults _ p2.1 in
       let p4 = none_in_both (property (columns context table) [] at d (codes "columns")).faults _ p3.1 in
       let all = property_fine AreFitColumns (columns context table) (columns_fine context table) [] no_columns at d (codes "columns") p4.0 in
-      let titles = names_of (keys context.profile context.base (place_of table 0) at d).value.row_titles in
+      let own = (optional (id context.base) at d (codes "@id")).value in
+      let titles = names_of (keys context.profile context.base (place_of table 0) own at d).value.row_titles in
       let fits = titled_fit titles (property (columns context table) [] at d (codes "columns")).value all in
       record {
         schema = record {
@@ -200,7 +200,7 @@ module _ (datatypes : DatatypesFit) where
           datatypes = fits.sound;
           names = fits.names;
         };
-        keys = record { primary_key = refl; foreign_keys = refl };
+        keys = refl;
       }
 
   pub schema_fine : (context : Context) (table : ℕ) (at : List ℕ) (d : Data) → Ensures (schema context table at d) IsFitFound

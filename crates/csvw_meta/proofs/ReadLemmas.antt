@@ -30,3 +30,7 @@ refused (Err y) e r h f = subst (λ z. Fails z r.faults) (sym h) f
 -- A fault after a part that has none is reported.
 pub later : {A : Type 0} (e : Refusal) (r : Read A) (a : A) (ys : List MetaFault) → r ≡ fine a → Fails e ys → Fails e (r.faults ++ ys)
 later {A = A} e r a ys is h = subst (λ (s : Read A). Fails e (s.faults ++ ys)) (sym is) h
+
+-- The same if what comes after depends on the value of the part.
+pub later_with : {A : Type 0} (e : Refusal) (r : Read A) (a : A) (ys : A → List MetaFault) → r ≡ fine a → Fails e (ys a) → Fails e (r.faults ++ ys r.value)
+later_with {A = A} e r a ys is h = subst (λ (s : Read A). Fails e (s.faults ++ ys s.value)) (sym is) h

@@ -15,6 +15,6 @@ all_tables : (targets : List Target) (i : ℕ) (ts : List TableFound)
 all_tables targets i [] = refl
 all_tables targets i (t ∷ ts) = ap (λ (fs : List MetaFault). own_faults targets t ++ fs) (all_tables targets (i + 1) ts)
 
-pub all_faults : (place : ℕ → List ℕ) (at : List ℕ) (g : GroupFound) → reference_faults place at [] g ≡ known_faults g
+pub all_faults : (place : ℕ → List ℕ) (at : List ℕ) (g : GroupFound) → reference_faults place at [] g ≡ known_faults (targets g) g
 all_faults place at g =
     ap (λ (fs : List MetaFault). schema_faults all_known (targets g) g.body.schema g.body.keys ++ fs) (all_tables (targets g) 0 g.tables)

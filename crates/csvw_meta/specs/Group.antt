@@ -15,6 +15,9 @@ use Rattle.csvw_meta_core.specs.declared.context.Context.{Context}
 use Rattle.csvw_meta.specs.declared.group.GroupFound.{GroupFound}
 use Rattle.csvw_meta.specs.declared.table.TableFound.{TableFound}
 use Rattle.csvw_meta.specs.Body.{given_dialect, body}
+use Rattle.csvw_meta.specs.ForeignKeys.{linked, linked_table}
+use Rattle.csvw_meta.specs.References.{targets}
+use Rattle.csvw_meta_keys.specs.declared.naming.Target.{Target}
 use Rattle.csvw_description.specs.Inherited.{no_inherited}
 use Rattle.csvw_meta_inherited.specs.Names.{inherited_names}
 use Rattle.csvw_meta_notes.specs.Places.{place_of}
@@ -53,17 +56,20 @@ group context at d = do
   body ← body context 0 at d
   fine (record { id = iri; tables = tables; given = given; body = body; notes = notes })
 
--- the description of the parts of a group
-abbrev pub description_of : GroupFound → Description
-description_of group = record {
+-- the description of the parts of a group, whose foreign keys refer to these tables
+abbrev pub described_among : List Target → GroupFound → Description
+described_among targets group = record {
   id = group.id;
-  tables = map (λ t. t.table) group.tables;
+  tables = map (linked_table targets) group.tables;
   dialect = group.given.dialect;
-  schema = group.body.schema;
+  schema = linked targets group.body.schema group.body.keys;
   inherited = group.body.inherited;
   notes = group.notes;
   warnings = group.body.warnings ++ group.given.warnings;
 }
+
+abbrev pub description_of : GroupFound → Description
+description_of group = described_among (targets group) group
 
 abbrev pub no_group : Description
 no_group = record { id = None; tables = []; dialect = None; schema = None; inherited = no_inherited; notes = []; warnings = [] }

@@ -3,6 +3,7 @@ pub mod Column
 pub mod DeclaredName
 pub mod Described
 pub mod Document
+pub mod ForeignKeys
 pub mod Group
 pub mod IfRead
 pub mod Json

@@ -1,6 +1,6 @@
 -- The schema that an object of a document describes, and its faults: `schema` (Metadata Vocabulary for Tabular Data, section
 -- 5.5).
-use Rattle.std.specs.Prelude.{ℕ, ◌+◌, ◌||◌, List, [], ◌++◌, Bool, false, codes, map, ◌∷◌}
+use Rattle.std.specs.Prelude.{ℕ, ◌+◌, ◌||◌, List, [], ◌++◌, Bool, false, None, codes, ◌∷◌}
 use Rattle.serde_json.specs.Data.{Data}
 use Rattle.csvw_description.specs.declared.column.ColumnDescription.{ColumnDescription}
 use Rattle.csvw_fault.specs.declared.fault.Fault.{Fault}
@@ -14,7 +14,7 @@ use Rattle.csvw_meta_core.specs.Kinds.{fixed}
 use Rattle.csvw_meta_core.specs.Links.{id}
 use Rattle.csvw_meta_notes.specs.Unlisted.{unlisted}
 use Rattle.csvw_meta_keys.specs.declared.keys.KeysFound.{KeysFound}
-use Rattle.csvw_meta_keys.specs.Described.{names_of, described, all_warnings}
+use Rattle.csvw_meta_keys.specs.Described.{names_of, all_warnings}
 use Rattle.csvw_meta_keys.specs.Keys.{keys}
 use Rattle.csvw_meta_keys.specs.Naming.{has_name}
 use Rattle.csvw_meta_core.specs.declared.context.Context.{Context}
@@ -73,13 +73,14 @@ abbrev pub with_row_titles : List (List ℕ) → ℕ → List ColumnDescription 
 with_row_titles names i [] = []
 with_row_titles names i (c ∷ cs) = with_row_title names (i + 1) c ∷ with_row_titles names (i + 1) cs
 
--- a schema with its keys and row titles; the warnings on the keys come after its own
+-- A schema with its keys and row titles. The warnings on the keys come after its own. Its foreign keys are described once the tables of the group
+-- are known.
 abbrev pub with_keys : List ColumnDescription → InheritedFound → List Fault → KeysFound → SchemaFound
 with_keys columns found warnings keys = record {
   schema = record {
     columns = with_row_titles (names_of keys.row_titles) 0 columns;
     primary_key = names_of keys.primary;
-    foreign_keys = map described keys.foreign;
+    foreign_keys = [];
     inherited = found.inherited;
     warnings = (found.warnings ++ warnings) ++ all_warnings keys.foreign;
   };
@@ -93,13 +94,13 @@ schema_of context table at d = do
   warnings ← unlisted context.base context.language (schema_names ++ inherited_names) (place_of table 0) at d
   columns ← property (columns context table) [] at d (codes "columns")
   found ← inherited context table 0 at d
-  keys ← keys context.profile context.base (place_of table 0) at d
+  keys ← keys context.profile context.base (place_of table 0) iri at d
   fine (with_keys columns found warnings keys)
 
 abbrev pub no_schema : SchemaFound
 no_schema = record {
   schema = record { columns = []; primary_key = []; foreign_keys = []; inherited = no_inherited; warnings = [] };
-  keys = record { primary = []; row_titles = []; foreign = [] };
+  keys = record { id = None; primary = []; row_titles = []; foreign = [] };
 }
 
 -- the schema of a table, or of the group if the number is 0

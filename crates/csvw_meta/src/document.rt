@@ -8,9 +8,9 @@ ghost use Rattle.csvw_meta.specs.Described.{sole_table, parts, within, described
 ghost use Rattle.csvw_meta.specs.Document.{IsFault, document, document_by, group_in, judged, of_bytes, own_url};
 
 use crate::body::{Body, DialectGiven};
-use crate::group::{GroupFound, description_of, read_group};
+use crate::group::{GroupFound, described_among, read_group};
 use crate::json::{document_fault, json_of, without_bom};
-use crate::references::check_references;
+use crate::references::{check_references, targets_of};
 use crate::table::table_of;
 use csvw_description::{Description, no_inherited};
 use csvw_iri::{Base, IriFault};
@@ -63,8 +63,9 @@ fn within(context: &Context, part: &Part) -> Result<Description, Refusal>
     ensures { Reads result (within context.now (text_of part.now.at) (view part.now.value.now)) }
 {
     let group = parts(context, part)?;
-    check_references(part.alloc, &group)?;
-    Ok(description_of(part.alloc, group)?)
+    let targets = targets_of(part.alloc, &group)?;
+    check_references(part.alloc, targets.as_slice(), &group)?;
+    Ok(described_among(part.alloc, targets.as_slice(), group)?)
 }
 
 /// Reads what a value describes at the document's own URL.

@@ -6,15 +6,18 @@ ghost use Rattle.csvw_meta_core.specs.Reads.{Fails, Reads};
 ghost use Rattle.csvw_meta_notes.specs.Places.{place_of};
 ghost use Rattle.csvw_meta_notes.specs.Unlisted.{all_warnings};
 ghost use Rattle.csvw_meta_inherited.specs.Names.{inherited_names};
-ghost use Rattle.csvw_meta.specs.Group.{group_names, url_of, url_faults, group, description_of};
+ghost use Rattle.csvw_meta.specs.ForeignKeys.{linked_table};
+ghost use Rattle.csvw_meta.specs.Group.{group_names, url_of, url_faults, group, described_among};
 
 use crate::body::{Body, DialectGiven, read_body, read_dialect};
+use crate::foreign_keys::{linked, linked_table};
 use crate::repeated::repeated_at;
 use crate::table::{TableFound, TableReader};
 use csvw_description::{Description, Note, TableDescription};
 use csvw_iri::Iri;
 use csvw_meta_core::{Context, Fixed, IdReader, MetaCode, Part, Reader, Refusal, Several, joined};
 use csvw_meta_inherited::annotated_warnings;
+use csvw_meta_keys::Target;
 use csvw_meta_notes::read_notes;
 use csvw_text::{Fault, Place, Seq, Text, both};
 use std::alloc::{AllocError, Global};
@@ -155,30 +158,39 @@ pub(crate) fn read_group(context: &Context, part: &Part) -> Result<GroupFound, R
 
 fn described_tables(
     alloc: Global,
+    targets: &[Target],
     all: Vec<TableFound>,
 ) -> Result<Seq<TableDescription>, AllocError>
-    ensures { IfOk result (λ s. s ≡ map (λ t. t.table) all.items) }
+    ensures { IfOk result (λ s. s ≡ map (linked_table targets.now) all.items) }
 {
     let mut tables = Vec::new(alloc);
     for found in all {
-        tables.push(found.table)?;
+        let table = linked_table(alloc, targets, found)?;
+        tables.push(table)?;
     }
     Ok(Seq::of(tables))
 }
 
-/// Returns the description of the parts of a group, or `AllocError` if there is no memory.
-pub(crate) fn description_of(alloc: Global, group: GroupFound) -> Result<Description, AllocError>
-    ensures { IfOk result (λ d. d ≡ description_of group) }
+/// Returns the description of the parts of a group, whose foreign keys refer to these tables. It returns `AllocError` if
+/// there is no memory.
+pub(crate) fn described_among(
+    alloc: Global,
+    targets: &[Target],
+    group: GroupFound,
+) -> Result<Description, AllocError>
+    ensures { IfOk result (λ d. d ≡ described_among targets.now group) }
 {
     let given = group.given;
     let body = group.body;
+    let schema = linked(alloc, targets, body.schema, &body.keys)?;
     let warnings = joined(body.warnings, given.warnings);
-    let (tables, warnings) = both(described_tables(alloc, group.tables.into_vec()), warnings)?;
+    let tables = described_tables(alloc, targets, group.tables.into_vec());
+    let (tables, warnings) = both(tables, warnings)?;
     Ok(Description {
         id: group.id,
         tables,
         dialect: given.dialect,
-        schema: body.schema,
+        schema,
         inherited: body.inherited,
         notes: group.notes,
         warnings,

@@ -12,6 +12,9 @@
 //!   - the columns and tables that its keys name exist.
 //! - In the profile `W3c`, the columns that the `rowTitles` of a schema name have `is_row_title`: `read_by`
 //!   (`with_row_titles`). A name that is not that of a column is `BadReference` at the name.
+//! - Each foreign key that is read has the URL of the table that it names: `read`, `read_by` (`described`). In the profile
+//!   `W3c` it may name the table by the `@id` of the table's schema (`schemaReference`). If not exactly one table has such
+//!   a schema, the fault is `BadReference` at the `schemaReference`.
 //! - The annotations of the group and of its tables are those of their common properties and notes. The annotations of
 //!   other objects are checked: `read`.
 //! - A rule over several values checks those that could be read: `read`.
@@ -33,6 +36,7 @@
 pub mod body;
 pub mod column;
 pub mod document;
+mod foreign_keys;
 pub mod group;
 pub mod json;
 pub mod laws;

@@ -4,12 +4,14 @@ ghost use Rattle.std.specs.Prelude.{◌≡◌, [], IfOk, MatchResult};
 ghost use Rattle.csvw_description.specs.Keys.{declared_names, own_or};
 ghost use Rattle.csvw_meta_core.specs.Reads.{Fails};
 ghost use Rattle.csvw_meta_keys.specs.Naming.{all_known};
-ghost use Rattle.csvw_meta.specs.References.{target, targets, schema_faults, known_table_faults, known_faults};
+ghost use Rattle.csvw_meta.specs.References.{id_or, target, targets, schema_faults, known_table_faults, known_faults};
 
+use crate::body::Body;
 use crate::group::GroupFound;
 use crate::schema::column_names;
 use crate::table::TableFound;
 use csvw_description::Schema;
+use csvw_iri::Iri;
 use csvw_meta_core::Refusal;
 use csvw_meta_keys::{KeysFound, Target, check_keys};
 use csvw_text::{Seq, Text};
@@ -36,16 +38,39 @@ fn own_or<'a>(table: &'a Option<Schema>, group: &'a Option<Schema>) -> &'a Optio
     }
 }
 
-fn target_of(
+/// Returns the `@id` of the schema that has these keys, if it has one.
+fn id_of(alloc: Global, keys: &KeysFound) -> Result<Option<Iri>, AllocError>
+    ensures { IfOk result (λ i. i ≡ keys.now.id) }
+{
+    match &keys.id {
+        Some(id) => Ok(Some(id.clone(alloc)?)),
+        None => Ok(None),
+    }
+}
+
+/// Returns the `@id` of a table's own schema or, if it has none, that of the group's. It returns `AllocError` if there is
+/// no memory.
+pub fn id_or(
     alloc: Global,
-    group: &Option<Schema>,
-    found: &TableFound,
-) -> Result<Target, AllocError>
+    table: &Option<KeysFound>,
+    group: &Option<KeysFound>,
+) -> Result<Option<Iri>, AllocError>
+    ensures { IfOk result (λ i. i ≡ id_or table.now group.now) }
+{
+    match (table, group) {
+        (Some(keys), _) => id_of(alloc, keys),
+        (None, Some(keys)) => id_of(alloc, keys),
+        (None, None) => Ok(None),
+    }
+}
+
+fn target_of(alloc: Global, group: &Body, found: &TableFound) -> Result<Target, AllocError>
     ensures { IfOk result (λ t. t ≡ target group.now found.now) }
 {
     Ok(Target {
         url: found.table.url.iri().clone(alloc)?,
-        names: declared_names(alloc, own_or(&found.table.schema, group))?,
+        schema: id_or(alloc, &found.keys, &group.keys)?,
+        names: declared_names(alloc, own_or(&found.table.schema, &group.schema))?,
     })
 }
 
@@ -55,7 +80,7 @@ pub fn targets_of(alloc: Global, group: &GroupFound) -> Result<Seq<Target>, Allo
 {
     let mut targets = Vec::new(alloc);
     for found in group.tables.as_slice() {
-        let target = target_of(alloc, &group.body.schema, found)?;
+        let target = target_of(alloc, &group.body, found)?;
         targets.push(target)?;
     }
     Ok(Seq::of(targets))
@@ -88,19 +113,17 @@ fn check_tables(alloc: Global, targets: &[Target], tables: &[TableFound]) -> Res
     Ok(())
 }
 
-/// Checks that what the keys and row titles of each schema of a group name exists: each column, the table of a foreign
-/// key's URL, and as many columns on both sides. Else the fault is `BadReference` at the name, at the URL or at the
-/// foreign key.
+/// Checks that what the keys and row titles of each schema of a group name exists: each column, the table of each foreign
+/// key, and as many columns on both sides. Else the fault is `BadReference` at the name, at the `resource` or the
+/// `schemaReference`, or at the foreign key. `targets` are the tables of the group.
 #[tactic(auto, using(crate::proofs::ReadLemmas::fails_first))]
-pub(crate) fn check_references(alloc: Global, group: &GroupFound) -> Result<(), Refusal>
-    ensures { MatchResult result (λ _. known_faults group.now ≡ []) (λ e. Fails e (known_faults group.now)) }
+pub(crate) fn check_references(
+    alloc: Global,
+    targets: &[Target],
+    group: &GroupFound,
+) -> Result<(), Refusal>
+    ensures { MatchResult result (λ _. known_faults targets.now group.now ≡ []) (λ e. Fails e (known_faults targets.now group.now)) }
 {
-    let targets = targets_of(alloc, group)?;
-    check_schema(
-        alloc,
-        targets.as_slice(),
-        &group.body.schema,
-        &group.body.keys,
-    )?;
-    check_tables(alloc, targets.as_slice(), group.tables.as_slice())
+    check_schema(alloc, targets, &group.body.schema, &group.body.keys)?;
+    check_tables(alloc, targets, group.tables.as_slice())
 }

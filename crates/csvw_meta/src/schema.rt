@@ -1,10 +1,10 @@
 //! Schemas (Metadata Vocabulary for Tabular Data, section 5.5).
-ghost use Rattle.std.specs.Prelude.{◌≡◌, ◌<◌, ◌+◌, ◌^◌, ◌++◌, [], IfOk, MatchResult, map};
+ghost use Rattle.std.specs.Prelude.{◌≡◌, ◌<◌, ◌+◌, ◌^◌, ◌++◌, [], IfOk, MatchResult};
 ghost use Rattle.csvw_description.specs.Name.{name_of, numbered_names};
 ghost use Rattle.serde_json.specs.View.{view};
 ghost use Rattle.csvw_meta_core.specs.Pointer.{text_of};
 ghost use Rattle.csvw_meta_core.specs.Reads.{Fails, Reads};
-ghost use Rattle.csvw_meta_keys.specs.Described.{all_warnings, described, names_of};
+ghost use Rattle.csvw_meta_keys.specs.Described.{all_warnings, names_of};
 ghost use Rattle.csvw_meta_notes.specs.Places.{place_of};
 ghost use Rattle.csvw_meta_notes.specs.Unlisted.{unlisted};
 ghost use Rattle.csvw_meta_inherited.specs.Names.{inherited_names};
@@ -14,7 +14,7 @@ ghost use Rattle.csvw_meta.specs.Schema.{with_keys, schema_of};
 use crate::column::ColumnReader;
 use crate::repeated::repeated_at;
 use crate::virtual_order::misplaced_at;
-use csvw_description::{ColumnDescription, ForeignKey, Schema};
+use csvw_description::{ColumnDescription, Schema};
 use csvw_meta_core::{Context, Fixed, IdReader, MetaCode, Part, Reader, Refusal, Several, joined};
 use csvw_meta_inherited::{InheritedFound, inheriting_warnings, read_inherited};
 use csvw_meta_keys::naming::has_name;
@@ -168,15 +168,14 @@ impl<'a> Reader for SchemaReader<'a> {
     }
 }
 
-/// The keys of a schema, and all its warnings.
+/// The primary key of a schema, and all its warnings.
 #[derive(Drop)]
 struct KeysDescribed {
     primary_key: Seq<Text>,
-    foreign_keys: Seq<ForeignKey>,
     warnings: Seq<Fault>,
 }
 
-/// Returns the keys of a schema, with the warnings on what columns inherit, those on the schema, and those on the keys.
+/// Returns the primary key of a schema, with the warnings on what columns inherit, those on the schema, and those on the keys.
 fn described_keys(
     alloc: Global,
     handed_down: Seq<Fault>,
@@ -184,14 +183,12 @@ fn described_keys(
     keys: &KeysFound,
 ) -> Result<KeysDescribed, AllocError>
     ensures primary { IfOk result (λ k. k.primary_key ≡ names_of keys.now.primary) }
-    ensures foreign { IfOk result (λ k. k.foreign_keys ≡ map described keys.now.foreign) }
     ensures warnings { IfOk result (λ k. k.warnings ≡ (handed_down ++ own) ++ all_warnings keys.now.foreign) }
 {
     let warnings = joined(handed_down, own)?;
     let warnings = joined(warnings, keys.warnings(alloc)?)?;
     Ok(KeysDescribed {
         primary_key: keys.primary_key(alloc)?,
-        foreign_keys: keys.foreign_keys(alloc)?,
         warnings,
     })
 }
@@ -259,8 +256,8 @@ fn with_row_titles(
     each_titled(alloc, names.as_slice(), columns.as_slice())
 }
 
-/// Returns the schema of these columns and keys, with its warnings and then those on the keys. It returns `AllocError` if
-/// there is no memory.
+/// Returns the schema of these columns and keys, with its warnings and then those on the keys. It has no foreign keys yet,
+/// since the tables of the group aren't known. It returns `AllocError` if there is no memory.
 pub fn with_keys(
     alloc: Global,
     columns: Seq<ColumnDescription>,
@@ -275,7 +272,7 @@ pub fn with_keys(
     let schema = Schema {
         columns,
         primary_key: described.primary_key,
-        foreign_keys: described.foreign_keys,
+        foreign_keys: Seq::new(alloc),
         inherited: found.inherited,
         warnings: described.warnings,
     };
@@ -285,7 +282,7 @@ pub fn with_keys(
 fn schema_of(context: &Context, table: u32, part: &Part) -> Result<SchemaFound, Refusal>
     ensures { Reads result (schema_of context.now table (text_of part.now.at) (view part.now.value.now)) }
 {
-    part.optional(
+    let id = part.optional(
         &IdReader {
             base: &context.base,
         },
@@ -300,6 +297,6 @@ fn schema_of(context: &Context, table: u32, part: &Part) -> Result<SchemaFound, 
         row: 0,
         column: 0,
     };
-    let keys = read_keys(context.profile, &context.base, place, part)?;
+    let keys = read_keys(context.profile, &context.base, place, id, part)?;
     Ok(with_keys(part.alloc, columns, found, warnings, keys)?)
 }

@@ -3,9 +3,10 @@
 ghost use Rattle.std.specs.Prelude.{◌≡◌, ◌++◌, ◌∷◌, [], Bool, IfOk, List, MatchOption, None, OnOk, Some, flat_map, if◌then◌else◌, length, map, not, true, ℕ};
 ghost use Rattle.std.specs.List.{list_any};
 ghost use Rattle.csvw_meta.specs.References.{hides_side};
-ghost use Rattle.csvw_meta_keys.specs.Naming.{bad_reference, faults_to, foreign_faults, key_faults, name_fault, name_faults, own_faults, referred_faults};
-ghost use Rattle.csvw_meta_keys.specs.Naming.{side_faults, target_of, told_if};
-ghost use Rattle.csvw_meta_faults.specs.Targets.{as_target, faults_of_keys, faults_of_tables, known_in, names_known, targets_in};
+ghost use Rattle.csvw_meta_keys.specs.Naming.{bad_reference, faults_to, foreign_faults, has_schema, is_id, key_faults, name_fault, name_faults};
+ghost use Rattle.csvw_meta_keys.specs.Naming.{named, own_faults, referred_faults, side_faults, sole_of, target_of, told_if};
+ghost use Rattle.csvw_meta_faults.specs.Targets.{as_target, faults_of_keys, faults_of_tables, flag_of, known_in, named_known, names_known, sole_known};
+ghost use Rattle.csvw_meta_faults.specs.Targets.{targets_in};
 
 use crate::marks::Marks;
 use crate::seen::TableSeen;
@@ -13,7 +14,7 @@ use crate::targets::TargetSeen;
 use csvw_description::Nulls;
 use csvw_meta_core::{MetaCode, MetaFault};
 use csvw_meta_faults_core::below;
-use csvw_meta_keys::{ForeignKeyFound, KeyName, KeysFound};
+use csvw_meta_keys::{ForeignKeyFound, KeyName, KeysFound, NamedBy, NamedTable};
 use csvw_text::Text;
 use std::alloc::{AllocError, Global};
 
@@ -32,6 +33,8 @@ pub(crate) struct Scene<'a> {
     pub(crate) group_hidden: bool,
     /// Whether the URLs of all tables could be read.
     pub(crate) urls_known: bool,
+    /// Whether the `@id`s of the schemas of all tables could be read.
+    pub(crate) ids_known: bool,
 }
 
 /// The names of the columns of the schema that has the keys.
@@ -118,6 +121,70 @@ fn target_of<'a>(targets: &'a [TargetSeen], url: &str) -> Option<&'a TargetSeen>
     None
 }
 
+/// Returns whether the schema of a table has this `@id`.
+fn has_schema(target: &TargetSeen, id: &str) -> bool
+    ensures { result ≡ is_id id.now target.now.id }
+{
+    match &target.id {
+        Some(own) => own.as_str() == id,
+        None => false,
+    }
+}
+
+/// Returns whether the schema of one of the tables has this `@id`.
+fn some_has_schema(targets: &[TargetSeen], id: &str) -> bool
+    ensures { (group : List (List ℕ)) → result ≡ list_any (has_schema id.now) (map (as_target group) targets.now) }
+{
+    for target in targets {
+        if has_schema(target, id) {
+            return true;
+        }
+    }
+    false
+}
+
+/// Returns the table whose schema has this `@id`, or `None` if there is none or more than one.
+fn sole_of<'a>(targets: &'a [TargetSeen], id: &str) -> Option<&'a TargetSeen>
+    ensures { (group : List (List ℕ)) → MatchOption result (sole_of (map (as_target group) targets.now) id.now ≡ None)
+        (λ t. sole_of (map (as_target group) targets.now) id.now ≡ Some (as_target group t.now)) }
+{
+    for (i, target) in targets.iter().enumerate() {
+        if has_schema(target, id) {
+            return unless_repeated(target, &targets[i + 1..], id);
+        }
+    }
+    None
+}
+
+/// Returns a table, or `None` if a later one has a schema with the same `@id`.
+fn unless_repeated<'a>(
+    target: &'a TargetSeen,
+    later: &'a [TargetSeen],
+    id: &str,
+) -> Option<&'a TargetSeen>
+    ensures { (group : List (List ℕ)) → MatchOption result
+        ((if list_any (has_schema id.now) (map (as_target group) later.now) then None else Some (as_target group target.now)) ≡ None)
+        (λ t. (if list_any (has_schema id.now) (map (as_target group) later.now) then None else Some (as_target group target.now))
+        ≡ Some (as_target group t.now)) }
+{
+    if some_has_schema(later, id) {
+        None
+    } else {
+        Some(target)
+    }
+}
+
+/// Returns the table that a reference names, by its URL or by its schema.
+fn named<'a>(targets: &'a [TargetSeen], table: &NamedTable) -> Option<&'a TargetSeen>
+    ensures { (group : List (List ℕ)) → MatchOption result (named (map (as_target group) targets.now) table.now ≡ None)
+        (λ t. named (map (as_target group) targets.now) table.now ≡ Some (as_target group t.now)) }
+{
+    match table.by {
+        NamedBy::Url => target_of(targets, table.url.as_str()),
+        NamedBy::Schema => sole_of(targets, table.url.as_str()),
+    }
+}
+
 /// Returns whether a fault hides a name of a table.
 fn hides_target(target: &TargetSeen, group_hidden: bool) -> bool
     ensures { result ≡ (if target.now.has_schema then target.now.names_hidden else group_hidden) }
@@ -144,6 +211,41 @@ fn names_known(targets: &[TargetSeen], group_hidden: bool, url: &str) -> bool
     true
 }
 
+/// Returns whether it is known which table's schema has this `@id`, and which names the table has.
+fn sole_known(targets: &[TargetSeen], group_hidden: bool, id: &str) -> bool
+    ensures { result ≡ sole_known group_hidden targets.now id.now }
+{
+    for target in targets {
+        if target.id_hidden {
+            return false;
+        }
+        if has_schema(target, id) && hides_target(target, group_hidden) {
+            return false;
+        }
+    }
+    true
+}
+
+/// Returns whether it is known which table a reference names, and which names the table has.
+fn named_known(scene: &Scene, table: &NamedTable) -> bool
+    ensures { result ≡ named_known table.now.by scene.now.group_hidden scene.now.targets.now table.now.url }
+{
+    match table.by {
+        NamedBy::Url => names_known(scene.targets, scene.group_hidden, table.url.as_str()),
+        NamedBy::Schema => sole_known(scene.targets, scene.group_hidden, table.url.as_str()),
+    }
+}
+
+/// Returns whether what references name tables by could be read of all tables.
+fn all_known(scene: &Scene, by: NamedBy) -> bool
+    ensures { result ≡ flag_of by scene.now.urls_known scene.now.ids_known }
+{
+    match by {
+        NamedBy::Url => scene.urls_known,
+        NamedBy::Schema => scene.ids_known,
+    }
+}
+
 /// Returns the names of the columns of a table.
 fn names_of<'a>(scene: &'a Scene, target: &'a TargetSeen) -> &'a Nulls
     ensures { result.now ≡ (as_target scene.now.group_names.now target.now).names }
@@ -165,7 +267,7 @@ fn find_referred(
     ensures { OnOk result (faults.new.items ≡ faults.old.items
         ++ referred_faults (known_in scene.now true) key.now (as_target scene.now.group_names.now target.now)) }
 {
-    if names_known(scene.targets, scene.group_hidden, target.url.as_str()) {
+    if named_known(scene, &key.table) {
         find_names(
             scene,
             names_of(scene, target),
@@ -235,14 +337,14 @@ fn find_missing(
     ensures { (known : Bool) (own : List (List ℕ)) → OnOk result (faults.new.items ≡ faults.old.items
         ++ faults_to (known_in scene.now known) own key.now None) }
 {
-    if scene.urls_known {
-        add_reference(scene.alloc, &key.resource.at, faults)
+    if all_known(scene, key.table.by) {
+        add_reference(scene.alloc, &key.table.at, faults)
     } else {
         Ok(())
     }
 }
 
-/// Adds the faults of a foreign key whose URL could be read.
+/// Adds the faults of a foreign key whose `resource` or `schemaReference` could be read.
 fn find_resolved(
     scene: &Scene,
     own: OwnNames,
@@ -250,9 +352,9 @@ fn find_resolved(
     faults: &mut Vec<MetaFault>,
 ) -> Result<(), AllocError>
     ensures { OnOk result (faults.new.items ≡ faults.old.items ++ faults_to (known_in scene.now own.entry.known)
-        own.entry.names.now key.now (target_of (targets_in scene.now) key.now.resource.url)) }
+        own.entry.names.now key.now (named (targets_in scene.now) key.now.table)) }
 {
-    match target_of(scene.targets, key.resource.url.as_str()) {
+    match named(scene.targets, &key.table) {
         Some(target) => find_to(scene, own, target, key, faults),
         None => find_missing(scene, key, faults),
     }
@@ -268,7 +370,7 @@ fn find_foreign(
     ensures { OnOk result (faults.new.items ≡ faults.old.items ++ foreign_faults (known_in scene.now own.entry.known)
         own.entry.names.now (targets_in scene.now) key.now) }
 {
-    if !scene.marks.could_read(key.resource.at.as_str()) {
+    if !scene.marks.could_read(key.table.at.as_str()) {
         return Ok(());
     }
     find_resolved(scene, own, key, faults)

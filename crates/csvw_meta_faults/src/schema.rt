@@ -136,7 +136,7 @@ fn find_schema_of(
     find_unlisted(part, &context.base, faults)?;
     find_columns(context, part, faults)?;
     find_inherited(context, part, faults)?;
-    find_keys(context.profile, &context.base, part, faults)
+    find_keys(context, part, faults)
 }
 
 /// Adds the faults of a schema. The URL of a schema is `NotSupported`.

@@ -2,6 +2,7 @@
 ghost use Rattle.std.specs.Prelude.{◌≡◌, [], IfOk, codes, map, option_map, ℕ};
 ghost use Rattle.serde_json.specs.View.{items_view, view};
 ghost use Rattle.csvw_description.specs.Inherited.{no_inherited};
+ghost use Rattle.csvw_meta_core.specs.Links.{id as id_read};
 ghost use Rattle.csvw_meta_core.specs.Pointer.{item_at, text_of};
 ghost use Rattle.csvw_meta_core.specs.Read.{each_numbered, optional, property};
 ghost use Rattle.csvw_meta.specs.Column.{column};
@@ -10,8 +11,9 @@ ghost use Rattle.csvw_meta_faults.specs.Seen.{bare_column, bare_found};
 
 use crate::seen_column::column_seen;
 use csvw_description::{ColumnDescription, Schema, no_inherited};
+use csvw_iri::{Iri, named};
 use csvw_meta::schema::SchemaFound;
-use csvw_meta_core::{Context, Part};
+use csvw_meta_core::{Context, IdReader, Part, Reader, Refusal};
 use csvw_meta_faults_parts::{array_items, keys_seen};
 use csvw_meta_keys::KeysFound;
 use csvw_text::Seq;
@@ -88,13 +90,38 @@ fn schema_with(part: &Part, columns: Seq<ColumnDescription>) -> Schema
     }
 }
 
+/// Returns the `@id` of a schema, or the one that stands in if it can't be read.
+fn id_here(context: &Context, part: &Part) -> Result<Iri, AllocError>
+    ensures { IfOk result (λ i. i ≡ (id_read context.now.base (text_of part.now.at) (view part.now.value.now)).value) }
+{
+    let id = IdReader {
+        base: &context.base,
+    };
+    match id.read(part) {
+        Ok(id) => Ok(id),
+        Err(Refusal::Memory) => Err(AllocError),
+        Err(Refusal::Fault(_)) => named(part.alloc, ""),
+    }
+}
+
+/// Returns the `@id` of the schema, or `None` if it has none.
+fn id_seen(context: &Context, part: &Part) -> Result<Option<Iri>, AllocError>
+    ensures { IfOk result (λ i. i ≡ (optional (id_read context.now.base) (text_of part.now.at) (view part.now.value.now) (codes "@id")).value) }
+{
+    match part.value.get("@id") {
+        Some(value) => Ok(Some(id_here(context, &part.member("@id", value))?)),
+        None => Ok(None),
+    }
+}
+
 /// Returns what is seen of the schema that an object is: its columns and its keys.
 #[tactic(auto, unfolding(csvw_meta::specs::Schema::schema_of))]
 fn schema_of_seen(context: &Context, part: &Part) -> Result<SchemaFound, AllocError>
     ensures { (table : ℕ) → IfOk result (λ s. s ≡ bare_found (schema_of context.now table (text_of part.now.at) (view part.now.value.now)).value) }
 {
     let columns = columns_seen(context, part)?;
-    let keys = keys_seen(context.profile, &context.base, part)?;
+    let id = id_seen(context, part)?;
+    let keys = keys_seen(context, id, part)?;
     Ok(SchemaFound {
         schema: schema_with(part, columns),
         keys,
@@ -111,6 +138,7 @@ fn schema_seen(context: &Context, part: &Part) -> Result<SchemaFound, AllocError
         _ => Ok(SchemaFound {
             schema: schema_with(part, Seq::new(part.alloc)),
             keys: KeysFound {
+                id: None,
                 primary: Seq::new(part.alloc),
                 row_titles: Seq::new(part.alloc),
                 foreign: Seq::new(part.alloc),

@@ -19,7 +19,7 @@ use crate::marks::Marks;
 use crate::references::{OwnNames, Scene, find_in_schema, find_in_tables};
 use crate::seen::GroupSeen;
 use crate::seen_group::parts_seen;
-use crate::targets::{TargetSeen, names_of, targets_seen};
+use crate::targets::{InGroup, TargetSeen, names_of, targets_seen};
 use csvw_meta_core::{Context, MetaFault, Part};
 use csvw_meta_faults_core::below;
 use std::alloc::{AllocError, Global};
@@ -49,6 +49,21 @@ fn hides_url(targets: &[TargetSeen]) -> bool
     targets.iter().any(|target| target.url_hidden)
 }
 
+/// Returns whether a fault hides the `@id` of the schema of one of these tables.
+fn hides_id(targets: &[TargetSeen]) -> bool
+    ensures { result ≡ list_any (λ t. t.id_hidden) targets.now }
+{
+    targets.iter().any(|target| target.id_hidden)
+}
+
+/// Returns whether a fault hides all tables of the group at this pointer.
+fn hides_tables(alloc: Global, marks: &Marks, at: &str) -> Result<bool, AllocError>
+    ensures { IfOk result (λ b. b ≡ list_any (is_at (further_below at.now (codes "tables"))) marks.now.faults.now) }
+{
+    let tables = below(alloc, at, "tables")?;
+    Ok(marks.is_at(tables.as_str()))
+}
+
 /// Returns whether the URLs of all tables of the group at this pointer could be read.
 fn urls_known(
     alloc: Global,
@@ -59,10 +74,24 @@ fn urls_known(
     ensures { IfOk result (λ b. b ≡ not (list_any (is_at (further_below at.now (codes "tables"))) marks.now.faults.now
         || list_any (λ t. t.url_hidden) targets.now)) }
 {
-    let tables = below(alloc, at, "tables")?;
-    let hidden = marks.is_at(tables.as_str());
+    let hidden = hides_tables(alloc, marks, at)?;
     let url_hidden = hides_url(targets);
     Ok(!(hidden || url_hidden))
+}
+
+/// Returns whether the `@id`s of the schemas of all tables of the group at this pointer could be read.
+fn ids_known(
+    alloc: Global,
+    marks: &Marks,
+    at: &str,
+    targets: &[TargetSeen],
+) -> Result<bool, AllocError>
+    ensures { IfOk result (λ b. b ≡ not (list_any (is_at (further_below at.now (codes "tables"))) marks.now.faults.now
+        || list_any (λ t. t.id_hidden) targets.now)) }
+{
+    let hidden = hides_tables(alloc, marks, at)?;
+    let id_hidden = hides_id(targets);
+    Ok(!(hidden || id_hidden))
 }
 
 /// Adds the faults of what the keys of all schemas of the group name, if its tables are seen as these.
@@ -74,7 +103,7 @@ fn find_to_targets(
     faults: &mut Vec<MetaFault>,
 ) -> Result<(), AllocError>
     requires { targets.now ≡ seen_targets (table_at (is_some (get (codes "tables") (view part.now.value.now))) (text_of part.now.at))
-        marks.now.faults.now 0 (map as_table group.now.tables) }
+        (text_of part.now.at) group.now.keys marks.now.faults.now 0 (map as_table group.now.tables) }
     ensures { OnOk result (faults.new.items ≡ faults.old.items ++ reference_faults
         (table_at (is_some (get (codes "tables") (view part.now.value.now))) (text_of part.now.at)) (text_of part.now.at)
         marks.now.faults.now (as_group group.now)) }
@@ -82,6 +111,7 @@ fn find_to_targets(
     let at = part.at.text(part.alloc)?;
     let group_hidden = hides_names(part.alloc, marks, at.as_str(), &group.schema)?;
     let urls_known = urls_known(part.alloc, marks, at.as_str(), targets)?;
+    let ids_known = ids_known(part.alloc, marks, at.as_str(), targets)?;
     let group_names = names_of(part.alloc, &group.schema)?;
     let scene = Scene {
         alloc: part.alloc,
@@ -90,6 +120,7 @@ fn find_to_targets(
         group_names: &group_names,
         group_hidden,
         urls_known,
+        ids_known,
     };
     find_in_group(&scene, group, faults)
 }
@@ -105,7 +136,13 @@ fn find_references(
         (table_at (is_some (get (codes "tables") (view part.now.value.now))) (text_of part.now.at)) (text_of part.now.at) own.now (as_group group.now)) }
 {
     let marks = Marks::of(part.alloc, own)?;
-    let targets = targets_seen(part, &marks, group.tables.as_slice())?;
+    let at = part.at.text(part.alloc)?;
+    let in_group = InGroup {
+        marks: &marks,
+        at: at.as_str(),
+        keys: &group.keys,
+    };
+    let targets = targets_seen(part, &in_group, group.tables.as_slice())?;
     find_to_targets(part, &marks, targets.as_slice(), group, faults)
 }
 

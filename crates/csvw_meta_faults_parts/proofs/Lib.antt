@@ -1,3 +1,4 @@
 mod FaultsLemmas
 mod ItemsLemmas
+mod ReferenceLemmas
 mod WhicheverLemmas

@@ -5,10 +5,10 @@ use Rattle.csvw_meta_keys.specs.declared.keys.KeysFound.{KeysFound}
 use Rattle.csvw_meta_keys.specs.declared.reference.ReferenceFound.{ReferenceFound}
 
 abbrev pub bare_reference : ReferenceFound → ReferenceFound
-bare_reference r = record { resource = r.resource; columns = r.columns; warnings = [] }
+bare_reference r = record { table = r.table; columns = r.columns; warnings = [] }
 
 abbrev pub bare_key : ForeignKeyFound → ForeignKeyFound
-bare_key k = record { at = k.at; columns = k.columns; resource = k.resource; referenced = k.referenced; warnings = [] }
+bare_key k = record { at = k.at; columns = k.columns; table = k.table; referenced = k.referenced; warnings = [] }
 
 abbrev pub bare_keys : KeysFound → KeysFound
-bare_keys k = record { primary = k.primary; row_titles = k.row_titles; foreign = map bare_key k.foreign }
+bare_keys k = record { id = k.id; primary = k.primary; row_titles = k.row_titles; foreign = map bare_key k.foreign }

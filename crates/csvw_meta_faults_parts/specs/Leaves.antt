@@ -1,7 +1,7 @@
 -- The kinds of value of the crates below that have at most one fault, and the values that stand in: `length_has_one` and others
 -- (Metadata Vocabulary for Tabular Data, section 5).
 use Rattle.std.specs.Prelude.{ℕ, List, [], Bool, true, false, Option, Some, None, Result, Ok, Err, if◌then◌else◌, option_and_then, refl, ℤ}
-use Rattle.serde_json.specs.Data.{Num, Data, null, boolean, number, string, array, object}
+use Rattle.serde_json.specs.Data.{Data, null, boolean, number, string, array, object}
 use Rattle.serde_json.specs.Find.{as_bool, as_integer, as_str, as_number, as_u64}
 use Rattle.csvw_meta_core.specs.Kinds.{truth}
 use Rattle.std.specs.Str.{chars}
@@ -12,12 +12,12 @@ use Rattle.csvw_datatype.specs.Strings.{has_length}
 use Rattle.csvw_datatype.specs.Bounds.{bound_of, bound_of_whole}
 use Rattle.csvw_datatype_core.specs.declared.date.DateFormat.TheVariants.{YearFirst}
 use Rattle.csvw_datatype_core.specs.declared.moment.MomentFormat.TheVariants.{Seconds}
-use Rattle.csvw_datatype_core.specs.declared.time.TimeFormat.TheVariants as times
+use Rattle.csvw_datatype_core.specs.declared.clock.ClockFormat.TheVariants as clocks
 use Rattle.csvw_template.specs.declared.fault.TemplateFault.{TemplateFault}
 use Rattle.csvw_template.specs.declared.part.Part.{Part}
 use Rattle.csvw_template.specs.Reading as reading
 use Rattle.csvw_meta_core.specs.declared.fault.MetaCode.{MetaCode}
-use Rattle.csvw_meta_core.specs.declared.fault.MetaCode.TheVariants.{BadDatatype, BadProperty, NotSupported}
+use Rattle.csvw_meta_core.specs.declared.fault.MetaCode.TheVariants.{BadDatatype, BadProperty}
 use Rattle.csvw_meta_core.specs.declared.profile.Profile.{Profile}
 use Rattle.csvw_meta_core.specs.declared.profile.Profile.TheVariants.{Core, W3c}
 use Rattle.csvw_meta_core.specs.Read.{Read, fine, faulty, on_kind_as, wrong}
@@ -28,13 +28,18 @@ use Rattle.csvw_regex.specs.Expressions.{is_expression}
 use Rattle.csvw_meta_datatype.specs.Expressions.{expression_of, text_expression}
 use Rattle.csvw_meta_datatype.specs.Base.{base, simple_found}
 use Rattle.csvw_meta_datatype.specs.Names.{named_of}
-use Rattle.csvw_meta_datatype.specs.Patterns.{date_format, date_format_of, moment_format, moment_format_of, time_format, time_format_of, pattern_found}
+use Rattle.csvw_datatype_core.specs.Clocks.{clock_format_of}
+use Rattle.csvw_datatype_core.specs.PatternLists.{date_format_of}
+use Rattle.csvw_datatype_core.specs.StampFormats.{stamp_format_of}
+use Rattle.csvw_meta_datatype.specs.Patterns.{clock_format, core_format_of, date_format, moment_format, pattern_found, plain, stamp_format}
 use Rattle.csvw_datatype.specs.declared.format.TruthFormat.{TruthFormat}
 use Rattle.csvw_meta_datatype.specs.Truths.{no_truths, truth_format, truth_format_of, truths_found}
-use Rattle.csvw_meta_inherited.specs.TemplateText.{template_text, told_template, template_code}
-use Rattle.csvw_meta_keys.specs.References.{resource}
+use Rattle.csvw_meta_inherited.specs.TemplateText.{template_text, told_template}
+use Rattle.csvw_meta_keys.specs.References.{resource, schema_id, schema_reference}
+use Rattle.csvw_meta_core.specs.Links.{told}
+use Rattle.csvw_iri.specs.Link.{resolved}
 use Rattle.url.specs.Parts.{Parts}
-use Rattle.csvw_meta_faults_core.specs.Sole.{AtMostOne, of_kind, of_test, url_has_one}
+use Rattle.csvw_meta_faults_core.specs.Sole.{AtMostOne, of_kind, of_link, of_test, url_has_one}
 use Rattle.csvw_meta_faults_core.specs.StandsIn.{StandsIn}
 
 -- ---- the value that stands in
@@ -66,26 +71,26 @@ length_stands_in s at d =
 
 -- ---- bounds
 
-found_has_one : (s : Simple) (at : List ℕ) (o : Option Value) → AtMostOne (bound_found s at o).faults
-found_has_one s at None = tt
-found_has_one s at (Some v) = tt
+found_has_one : (at : List ℕ) (o : Option Value) → AtMostOne (bound_found at o).faults
+found_has_one at None = tt
+found_has_one at (Some v) = tt
 
-found_stands_in : (s : Simple) (at : List ℕ) (o : Option Value) → StandsIn None (bound_found s at o)
-found_stands_in s at None = refl
-found_stands_in s at (Some v) = tt
+found_stands_in : (at : List ℕ) (o : Option Value) → StandsIn None (bound_found at o)
+found_stands_in at None = refl
+found_stands_in at (Some v) = tt
 
 integer_has_one : (s : Simple) (at : List ℕ) (d : Data) (o : Option ℤ) → AtMostOne (bound_of_integer s at d o).faults
 integer_has_one s at d None = tt
 integer_has_one s at d (Some z) =
-    of_test (is_dated s) (wrong at d None) (bound_found s at (bound_of_whole s z)) tt (found_has_one s at (bound_of_whole s z))
+    of_test (is_dated s) (wrong at d None) (bound_found at (bound_of_whole s z)) tt (found_has_one at (bound_of_whole s z))
 
 integer_stands_in : (s : Simple) (at : List ℕ) (d : Data) (o : Option ℤ) → StandsIn None (bound_of_integer s at d o)
 integer_stands_in s at d None = refl
 integer_stands_in s at d (Some z) =
-    in_test None (is_dated s) (wrong at d None) (bound_found s at (bound_of_whole s z)) refl (found_stands_in s at (bound_of_whole s z))
+    in_test None (is_dated s) (wrong at d None) (bound_found at (bound_of_whole s z)) refl (found_stands_in at (bound_of_whole s z))
 
 pub bound_has_one : (s : Simple) (at : List ℕ) (d : Data) → AtMostOne (bound s at d).faults
-bound_has_one s at (string text) = found_has_one s at (bound_of s text)
+bound_has_one s at (string text) = found_has_one at (bound_of s text)
 bound_has_one s at (number n) = integer_has_one s at (number n) (as_integer n)
 bound_has_one s at null = tt
 bound_has_one s at (boolean b) = tt
@@ -93,7 +98,7 @@ bound_has_one s at (array ds) = tt
 bound_has_one s at (object ms) = tt
 
 pub bound_stands_in : (s : Simple) (at : List ℕ) (d : Data) → StandsIn None (bound s at d)
-bound_stands_in s at (string text) = found_stands_in s at (bound_of s text)
+bound_stands_in s at (string text) = found_stands_in at (bound_of s text)
 bound_stands_in s at (number n) = integer_stands_in s at (number n) (as_integer n)
 bound_stands_in s at null = refl
 bound_stands_in s at (boolean b) = refl
@@ -137,15 +142,19 @@ date_has_one at d =
     of_kind BadProperty at d YearFirst (as_str d) (λ s. pattern_found YearFirst at (date_format_of s))
     (λ s. pattern_has_one YearFirst at (date_format_of s))
 
-pub moment_has_one : (profile : Profile) (at : List ℕ) (d : Data) → AtMostOne (moment_format profile at d).faults
-moment_has_one profile at d =
-    of_kind BadProperty at d Seconds (as_str d) (λ s. pattern_found Seconds at (moment_format_of profile s))
-    (λ s. pattern_has_one Seconds at (moment_format_of profile s))
+pub moment_has_one : (at : List ℕ) (d : Data) → AtMostOne (moment_format at d).faults
+moment_has_one at d =
+    of_kind BadProperty at d Seconds (as_str d) (λ s. pattern_found Seconds at (core_format_of s)) (λ s. pattern_has_one Seconds at (core_format_of s))
 
-pub time_has_one : (at : List ℕ) (d : Data) → AtMostOne (time_format at d).faults
-time_has_one at d =
-    of_kind BadProperty at d times.Seconds (as_str d) (λ s. pattern_found times.Seconds at (time_format_of s))
-    (λ s. pattern_has_one times.Seconds at (time_format_of s))
+pub stamp_has_one : (at : List ℕ) (d : Data) → AtMostOne (stamp_format at d).faults
+stamp_has_one at d =
+    of_kind BadProperty at d (plain Seconds) (as_str d) (λ s. pattern_found (plain Seconds) at (stamp_format_of s))
+    (λ s. pattern_has_one (plain Seconds) at (stamp_format_of s))
+
+pub clock_has_one : (at : List ℕ) (d : Data) → AtMostOne (clock_format at d).faults
+clock_has_one at d =
+    of_kind BadProperty at d clocks.Any (as_str d) (λ s. pattern_found clocks.Any at (clock_format_of s))
+    (λ s. pattern_has_one clocks.Any at (clock_format_of s))
 
 expression_of_has_one : (at s : List ℕ) → AtMostOne (expression_of at s).faults
 expression_of_has_one at s = of_test (is_expression s) (fine (Some s)) (faulty BadDatatype at None) tt tt
@@ -186,6 +195,16 @@ template_has_one at d =
 
 pub resource_has_one : (base : Parts) (at : List ℕ) (d : Data) → AtMostOne (resource base at d).faults
 resource_has_one base at d = url_has_one base at d
+
+schema_id_has_one : (base : Parts) (at : List ℕ) (d : Data) → AtMostOne (schema_id base at d).faults
+schema_id_has_one base at d =
+    of_kind BadProperty at d [] (as_str d) (λ s. told at [] (resolved base s)) (λ s. of_link at [] (resolved base s))
+
+pub schema_reference_has_one : (profile : Profile) (base : Parts) (beside : Bool) (at : List ℕ) (d : Data)
+    → AtMostOne (schema_reference profile base beside at d).faults
+schema_reference_has_one Core base beside at d = tt
+schema_reference_has_one W3c base true at d = tt
+schema_reference_has_one W3c base false at d = schema_id_has_one base at d
 
 -- ---- booleans
 

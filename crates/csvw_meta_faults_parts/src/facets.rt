@@ -54,7 +54,7 @@ pub fn find_facets(
 {
     find_each_facet(simple, part, faults)?;
     let facets = facets_seen(simple, part)?;
-    if !facets.agree() {
+    if !facets.agree(simple) {
         return add_fault(part, MetaCode::BadDatatype, faults);
     }
     Ok(())

@@ -5,7 +5,7 @@ ghost use Rattle.csvw_fault.specs.declared.fault.Place.{Place as ThePlace};
 ghost use Rattle.csvw_meta_core.specs.Pointer.{text_of};
 ghost use Rattle.csvw_meta_core.specs.Read.{property};
 ghost use Rattle.csvw_meta_datatype.specs.Formats.{expression_format, format, format_of_texts, no_format, number_format, text_format};
-ghost use Rattle.csvw_meta_faults_parts.specs.Leaves.{date_has_one, expression_has_one, moment_has_one, time_has_one, truth_format_has_one};
+ghost use Rattle.csvw_meta_faults_parts.specs.Leaves.{clock_has_one, date_has_one, expression_has_one, moment_has_one, stamp_has_one, truth_format_has_one};
 
 use crate::leaf::{Leaf, OneFault};
 use crate::number::find_number_form;
@@ -13,7 +13,7 @@ use csvw_datatype::{Simple, TextType};
 use csvw_meta_core::{MetaCode, MetaFault, Part, Profile};
 use csvw_meta_datatype::expression::ExpressionReader;
 use csvw_meta_datatype::number::{PLAIN, pattern_code, pattern_in};
-use csvw_meta_datatype::pattern::{DatePattern, MomentPattern, TimePattern};
+use csvw_meta_datatype::pattern::{ClockPattern, DatePattern, MomentPattern, StampPattern};
 use csvw_meta_datatype::truth::TruthPattern;
 use csvw_meta_faults_core::{add_fault, add_wrong, find_sole};
 use serde_json::Value;
@@ -24,11 +24,15 @@ impl OneFault for DatePattern {
 }
 
 impl OneFault for MomentPattern {
-    ghost at_most_one = { λ r. moment_has_one r.profile };
+    ghost at_most_one = { λ _. moment_has_one };
 }
 
-impl OneFault for TimePattern {
-    ghost at_most_one = { λ _. time_has_one };
+impl OneFault for StampPattern {
+    ghost at_most_one = { λ _. stamp_has_one };
+}
+
+impl OneFault for ClockPattern {
+    ghost at_most_one = { λ _. clock_has_one };
 }
 
 impl OneFault for ExpressionReader {
@@ -89,13 +93,15 @@ fn find_format_of_texts(
 ) -> Result<(), AllocError>
     ensures { OnOk result (faults.new.items ≡ faults.old.items ++ (format_of_texts profile text_type (text_of part.now.at) (view part.now.value.now)).faults) }
 {
+    let clock = Leaf {
+        reader: ClockPattern,
+    };
+    let stamp = Leaf {
+        reader: StampPattern,
+    };
     match text_type {
-        TextType::Time => {
-            let time = Leaf {
-                reader: TimePattern,
-            };
-            find_sole(part, &time, faults)
-        }
+        TextType::Time => find_sole(part, &clock, faults),
+        TextType::DateTime(_) => find_sole(part, &stamp, faults),
         TextType::Any
         | TextType::Normalized
         | TextType::Token
@@ -108,9 +114,7 @@ fn find_format_of_texts(
         | TextType::Json
         | TextType::Binary(_)
         | TextType::Duration(_) => find_expression(profile, part, faults),
-        TextType::DateTime(_) | TextType::Part(_) => {
-            add_fault(part, MetaCode::NotSupported, faults)
-        }
+        TextType::Part(_) => add_fault(part, MetaCode::NotSupported, faults),
     }
 }
 
@@ -132,7 +136,7 @@ fn find_format_here(
         reader: DatePattern,
     };
     let moment = Leaf {
-        reader: MomentPattern { profile },
+        reader: MomentPattern,
     };
     match simple {
         Simple::Text | Simple::Uri => find_expression(profile, part, faults),

@@ -6,14 +6,14 @@ ghost use Rattle.csvw_fault.specs.declared.fault.Place.{Place as ThePlace};
 ghost use Rattle.csvw_meta_core.specs.Links.{no_url, url};
 ghost use Rattle.csvw_meta_core.specs.Pointer.{text_of};
 ghost use Rattle.csvw_meta_core.specs.Read.{needed};
-ghost use Rattle.csvw_meta_keys.specs.References.{no_reference, no_resource, reference, resource};
+ghost use Rattle.csvw_meta_keys.specs.References.{no_reference, no_resource, reference, resource, schema_id, schema_named, schema_reference, table_named};
 ghost use Rattle.csvw_meta_faults_parts.specs.BareKeys.{bare_reference};
 
 use crate::seen_key_names::names_at;
 use csvw_iri::{Base, Iri, named};
-use csvw_meta_core::{Part, Reader, Refusal, UrlReader};
-use csvw_meta_keys::Resource;
-use csvw_meta_keys::reference::ReferenceFound;
+use csvw_meta_core::{Context, Part, Profile, Reader, Refusal, UrlReader};
+use csvw_meta_keys::reference::{ReferenceFound, SchemaIdReader, has_resource, table_of_schema};
+use csvw_meta_keys::{NamedBy, NamedTable};
 use csvw_text::Seq;
 use serde_json::Value;
 use std::alloc::{AllocError, Global};
@@ -37,14 +37,15 @@ pub fn no_iri(alloc: Global) -> Result<Iri, AllocError>
 }
 
 /// Returns the table of the URL that the property `resource` is, and its place.
-fn resource_seen(base: &Base, part: &Part) -> Result<Resource, AllocError>
+fn resource_seen(base: &Base, part: &Part) -> Result<NamedTable, AllocError>
     ensures { IfOk result (λ r. r ≡ (needed (resource base.now) (no_resource (text_of part.now.at)) (text_of part.now.at)
         (view part.now.value.now) (codes "resource")).value) }
 {
     match part.value.get("resource") {
         Some(value) => {
             let url = part.member("resource", value);
-            Ok(Resource {
+            Ok(NamedTable {
+                by: NamedBy::Url,
                 url: url_seen(base, &url)?,
                 at: url.at.text(part.alloc)?,
             })
@@ -54,13 +55,71 @@ fn resource_seen(base: &Base, part: &Part) -> Result<Resource, AllocError>
 }
 
 /// Returns the table that stands in for a missing one at this place.
-fn no_resource(part: &Part) -> Result<Resource, AllocError>
+fn no_resource(part: &Part) -> Result<NamedTable, AllocError>
     ensures { IfOk result (λ r. r ≡ no_resource (text_of part.now.at)) }
 {
-    Ok(Resource {
+    Ok(NamedTable {
+        by: NamedBy::Url,
         url: named(part.alloc, "")?,
         at: part.at.text(part.alloc)?,
     })
+}
+
+/// Returns the `@id` of a schema, or the one that stands in if it can't be read.
+fn schema_id_seen(base: &Base, part: &Part) -> Result<Iri, AllocError>
+    ensures { IfOk result (λ i. i ≡ (schema_id base.now (text_of part.now.at) (view part.now.value.now)).value) }
+{
+    match (SchemaIdReader { base }).read(part) {
+        Ok(id) => Ok(id),
+        Err(Refusal::Memory) => Err(AllocError),
+        Err(Refusal::Fault(_)) => named(part.alloc, ""),
+    }
+}
+
+/// Returns the table whose schema a `schemaReference` names, if it counts: not in the profile `Core`, and not beside a
+/// `resource`.
+fn schema_reference_seen(
+    context: &Context,
+    beside_resource: bool,
+    part: &Part,
+) -> Result<Option<NamedTable>, AllocError>
+    ensures { IfOk result (λ t. t
+        ≡ (schema_reference context.now.profile context.now.base beside_resource (text_of part.now.at) (view part.now.value.now)).value) }
+{
+    match context.profile {
+        Profile::Core => Ok(None),
+        Profile::W3c if beside_resource => Ok(None),
+        Profile::W3c => {
+            let id = schema_id_seen(&context.base, part)?;
+            Ok(Some(table_of_schema(part, id)?))
+        }
+    }
+}
+
+/// Returns the table that a reference names by its schema, if it does.
+fn schema_seen(context: &Context, part: &Part) -> Result<Option<NamedTable>, AllocError>
+    ensures { IfOk result (λ t. t ≡ (schema_named context.now.profile context.now.base (text_of part.now.at) (view part.now.value.now)).value) }
+{
+    match part.value.get("schemaReference") {
+        Some(value) => schema_reference_seen(
+            context,
+            has_resource(part),
+            &part.member("schemaReference", value),
+        ),
+        None => Ok(None),
+    }
+}
+
+/// Returns the table that a reference names.
+fn table_seen(context: &Context, part: &Part) -> Result<NamedTable, AllocError>
+    ensures { IfOk result (λ t. t ≡ (table_named context.now.base
+        (schema_named context.now.profile context.now.base (text_of part.now.at) (view part.now.value.now)).value
+        (text_of part.now.at) (view part.now.value.now)).value) }
+{
+    match schema_seen(context, part)? {
+        Some(table) => Ok(table),
+        None => resource_seen(&context.base, part),
+    }
 }
 
 /// Returns what stands in for a reference that can't be read.
@@ -68,7 +127,7 @@ pub fn no_reference(part: &Part) -> Result<ReferenceFound, AllocError>
     ensures { IfOk result (λ r. r ≡ no_reference (text_of part.now.at)) }
 {
     Ok(ReferenceFound {
-        resource: no_resource(part)?,
+        table: no_resource(part)?,
         columns: Seq::new(part.alloc),
         warnings: Seq::new(part.alloc),
     })
@@ -76,13 +135,13 @@ pub fn no_reference(part: &Part) -> Result<ReferenceFound, AllocError>
 
 /// Returns what a reference says, without its warnings.
 #[tactic(auto, unfolding(csvw_meta_keys::specs::References::reference_of))]
-pub fn reference_seen(base: &Base, part: &Part) -> Result<ReferenceFound, AllocError>
+pub fn reference_seen(context: &Context, part: &Part) -> Result<ReferenceFound, AllocError>
     ensures { (place : ThePlace) → IfOk result (λ r. r
-        ≡ bare_reference (reference base.now place (text_of part.now.at) (view part.now.value.now)).value) }
+        ≡ bare_reference (reference context.now.profile context.now.base place (text_of part.now.at) (view part.now.value.now)).value) }
 {
     match part.value {
         Value::Object(_) => Ok(ReferenceFound {
-            resource: resource_seen(base, part)?,
+            table: table_seen(context, part)?,
             columns: names_at(part, "columnReference")?,
             warnings: Seq::new(part.alloc),
         }),

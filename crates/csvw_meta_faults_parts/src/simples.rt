@@ -1,10 +1,10 @@
 //! The built-in datatypes of a profile (Metadata Vocabulary for Tabular Data, section 5.11.1).
-ghost use Rattle.std.specs.Prelude.{◌≡◌, IfOk, filter};
-ghost use Rattle.csvw_meta_datatype.specs.Names.{all_simples, is_in, simples_of};
+ghost use Rattle.std.specs.Prelude.{◌≡◌, IfOk, filter, map};
+ghost use Rattle.csvw_meta_datatype.specs.Names.{all_simples, is_in, simples_of, with_zones};
 
 use csvw_datatype::{BinaryForm, DatePart, DurationKind, Floating, Simple, TextType, Width, Zone};
 use csvw_meta_core::Profile;
-use csvw_meta_datatype::base::is_in;
+use csvw_meta_datatype::base::{is_in, with_zones};
 use std::alloc::{AllocError, Global};
 
 /// The built-in datatypes of all profiles.
@@ -54,14 +54,15 @@ static ALL: [Simple; 43] = [
     Simple::Other(TextType::Duration(DurationKind::DayTime)),
 ];
 
-/// Returns those of some datatypes that a document in a profile may use, or `AllocError` if there is no memory.
+/// Returns those of some datatypes that a document in a profile may use, as it uses them. Returns `AllocError` if there is no
+/// memory.
 fn kept_in(alloc: Global, profile: Profile, simples: &[Simple]) -> Result<Vec<Simple>, AllocError>
-    ensures { IfOk result (λ v. v.items ≡ filter (is_in profile) simples.now) }
+    ensures { IfOk result (λ v. v.items ≡ map (with_zones profile) (filter (is_in profile) simples.now)) }
 {
     let mut kept = Vec::new(alloc);
     for simple in simples {
         if is_in(profile, *simple) {
-            kept.push(*simple)?;
+            kept.push(with_zones(profile, *simple))?;
         }
     }
     Ok(kept)

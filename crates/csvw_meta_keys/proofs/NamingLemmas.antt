@@ -9,7 +9,7 @@ use Rattle.csvw_meta_core.specs.declared.fault.Refusal.{Refusal}
 use Rattle.csvw_meta_core.specs.Reads.{Fails}
 use Rattle.csvw_meta_keys.specs.declared.foreign_key.ForeignKeyFound.{ForeignKeyFound}
 use Rattle.csvw_meta_keys.specs.declared.naming.Target.{Target}
-use Rattle.csvw_meta_keys.specs.Naming.{all_known, bad_reference, faults_to, foreign_faults, target_of}
+use Rattle.csvw_meta_keys.specs.Naming.{all_known, bad_reference, faults_to, foreign_faults, named}
 use Rattle.csvw_meta_keys.proofs.ReadLemmas.{fails_first}
 
 module _ {X : Type 0} (f : X → List MetaFault) (xs : List X) (i : ℕ) (x : X) (lt : i < length xs) (is : x ≡ get_or xs i x)
@@ -47,6 +47,6 @@ pub behind : {A : Type 0} (result : Result A Refusal) (xs ys : List MetaFault) �
 behind result xs ys none h = subst (λ zs. MatchResult result (λ _. zs ++ ys ≡ []) (λ e. Fails e (zs ++ ys))) (sym none) h
 
 -- A missing table is reported.
-pub missing : (e : Refusal) (own : List (List ℕ)) (targets : List Target) (key : ForeignKeyFound) → target_of targets key.resource.url ≡ None
-    → Fails e (bad_reference key.resource.at ∷ []) → Fails e (foreign_faults all_known own targets key)
+pub missing : (e : Refusal) (own : List (List ℕ)) (targets : List Target) (key : ForeignKeyFound) → named targets key.table ≡ None
+    → Fails e (bad_reference key.table.at ∷ []) → Fails e (foreign_faults all_known own targets key)
 missing e own targets key none h = subst (λ (found : Option Target). Fails e (faults_to all_known own key found)) (sym none) h

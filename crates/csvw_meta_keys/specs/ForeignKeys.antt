@@ -7,6 +7,7 @@ use Rattle.csvw_fault.specs.declared.fault.Fault.{Fault}
 use Rattle.csvw_fault.specs.declared.fault.Place.{Place}
 use Rattle.csvw_meta_core.specs.Read.{Read, fine, ◌>>=◌, needed, on_object}
 use Rattle.csvw_meta_core.specs.Several.{several}
+use Rattle.csvw_meta_core.specs.declared.profile.Profile.{Profile}
 use Rattle.csvw_meta_core.specs.declared.others.CommonProperty.TheVariants.{Refused}
 use Rattle.csvw_meta_core.specs.Others.{others}
 use Rattle.csvw_meta_keys.specs.declared.column_names.KeyName.{KeyName}
@@ -24,24 +25,24 @@ abbrev pub joined : List ℕ → List Fault → List KeyName → ReferenceFound 
 joined at warnings columns reference = record {
   at = at;
   columns = columns;
-  resource = reference.resource;
+  table = reference.table;
   referenced = reference.columns;
   warnings = warnings ++ reference.warnings;
 }
 
-unfoldable pub foreign_key_of : Parts → Place → List ℕ → Data → Read ForeignKeyFound
-foreign_key_of base place at d = do
+unfoldable pub foreign_key_of : Profile → Parts → Place → List ℕ → Data → Read ForeignKeyFound
+foreign_key_of profile base place at d = do
   warnings ← others (foreign_key_names ++ []) Refused place at d
   columns ← needed column_names [] at d (codes "columnReference")
-  reference ← needed (reference base place) (no_reference at) at d (codes "reference")
+  reference ← needed (reference profile base place) (no_reference at) at d (codes "reference")
   fine (joined at warnings columns reference)
 
 abbrev pub no_foreign_key : List ℕ → ForeignKeyFound
-no_foreign_key at = record { at = at; columns = []; resource = no_resource at; referenced = []; warnings = [] }
+no_foreign_key at = record { at = at; columns = []; table = no_resource at; referenced = []; warnings = [] }
 
-abbrev pub foreign_key : Parts → Place → List ℕ → Data → Read ForeignKeyFound
-foreign_key base place at d = on_object at d (no_foreign_key at) (foreign_key_of base place at d)
+abbrev pub foreign_key : Profile → Parts → Place → List ℕ → Data → Read ForeignKeyFound
+foreign_key profile base place at d = on_object at d (no_foreign_key at) (foreign_key_of profile base place at d)
 
 -- an array of at most 64 foreign keys
-abbrev pub foreign_keys : Parts → Place → List ℕ → Data → Read (List ForeignKeyFound)
-foreign_keys base place at d = several 0 MAX_FOREIGN_KEYS (λ n. foreign_key base place) at d
+abbrev pub foreign_keys : Profile → Parts → Place → List ℕ → Data → Read (List ForeignKeyFound)
+foreign_keys profile base place at d = several 0 MAX_FOREIGN_KEYS (λ n. foreign_key profile base place) at d

@@ -8,15 +8,18 @@ use Rattle.csvw_meta_keys.specs.declared.column_names.KeyName.{KeyName}
 use Rattle.csvw_meta_keys.specs.declared.foreign_key.ForeignKeyFound.{ForeignKeyFound}
 use Rattle.csvw_meta_keys.specs.declared.keys.KeysFound.{KeysFound}
 use Rattle.csvw_meta_keys.specs.declared.naming.Target.{Target}
+use Rattle.csvw_meta_keys.specs.declared.reference.NamedBy.{NamedBy}
+use Rattle.csvw_meta_keys.specs.declared.reference.NamedBy.TheVariants.{Url, Schema}
+use Rattle.csvw_meta_keys.specs.declared.reference.NamedTable.{NamedTable}
 
 -- Which of the names in a schema's keys, and of the things that they name, could be read.
 pub record Known : Type 0 where
   -- the names of all columns of the schema
   pub own : Bool
-  -- the URLs of all tables of the group
-  pub urls : Bool
-  -- which table is the first of a URL, and the names of all its columns
-  pub names : List ℕ → Bool
+  -- what references name a table by, of all tables of the group: their URLs, or the `@id`s of their schemas
+  pub tables : NamedBy → Bool
+  -- which table a reference names, and the names of all its columns
+  pub names : NamedTable → Bool
   -- the value at a pointer
   pub at : List ℕ → Bool
   -- both sides of the foreign key at a pointer
@@ -24,7 +27,7 @@ pub record Known : Type 0 where
 
 -- all of them
 abbrev pub all_known : Known
-all_known = record { own = true; urls = true; names = λ url. true; at = λ at. true; sides = λ at. true }
+all_known = record { own = true; tables = λ by. true; names = λ table. true; at = λ at. true; sides = λ at. true }
 
 -- faults that are reported only if what is checked could be read
 abbrev pub told_if : Bool → List MetaFault → List MetaFault
@@ -49,25 +52,47 @@ abbrev pub target_of : List Target → List ℕ → Option Target
 target_of [] url = None
 target_of (t ∷ ts) url = if bytes_eq t.url url then Some t else target_of ts url
 
+-- this is the `@id`
+abbrev pub is_id : List ℕ → Option (List ℕ) → Bool
+is_id id None = false
+is_id id (Some own) = bytes_eq own id
+
+-- the schema of the table has the `@id`
+abbrev pub has_schema : List ℕ → Target → Bool
+has_schema id t = is_id id t.schema
+
+-- the table whose schema has the `@id`, if there is exactly one
+abbrev pub sole_of : List Target → List ℕ → Option Target
+sole_of [] id = None
+sole_of (t ∷ ts) id = if has_schema id t then (if list_any (has_schema id) ts then None else Some t) else sole_of ts id
+
+-- the table that a reference names among these, by its URL or by its schema
+abbrev pub named_by : NamedBy → List Target → List ℕ → Option Target
+named_by Url targets url = target_of targets url
+named_by Schema targets url = sole_of targets url
+
+abbrev pub named : List Target → NamedTable → Option Target
+named targets table = named_by table.by targets table.url
+
 -- If the sides are not equally long, the fault is at the key.
 abbrev pub side_faults : Known → ForeignKeyFound → List MetaFault
 side_faults known key =
     told_if (known.sides key.at) (if nat_eq (length key.columns) (length key.referenced) then [] else bad_reference key.at ∷ [])
 
--- The names that are not columns of the table that is found, which is the first of its URL.
+-- The names that are not columns of the table that is found.
 abbrev pub referred_faults : Known → ForeignKeyFound → Target → List MetaFault
-referred_faults known key target = told_if (known.names target.url) (name_faults known target.names key.referenced)
+referred_faults known key target = told_if (known.names key.table) (name_faults known target.names key.referenced)
 
--- What is wrong with a foreign key from columns of these names to the table that is found by its URL. If there is no such table, that is
--- the only fault, and it is at the URL.
+-- What is wrong with a foreign key from columns of these names to the table that is found. If there is none, or more than one of the schema,
+-- that is the only fault, and it is at the `resource` or the `schemaReference`.
 abbrev pub faults_to : Known → List (List ℕ) → ForeignKeyFound → Option Target → List MetaFault
-faults_to known own key None = told_if known.urls (bad_reference key.resource.at ∷ [])
+faults_to known own key None = told_if (known.tables key.table.by) (bad_reference key.table.at ∷ [])
 faults_to known own key (Some target) =
     told_if known.own (name_faults known own key.columns) ++ (referred_faults known key target ++ side_faults known key)
 
--- A foreign key is checked if its URL could be read.
+-- A foreign key is checked if its `resource` or its `schemaReference` could be read.
 abbrev pub foreign_faults : Known → List (List ℕ) → List Target → ForeignKeyFound → List MetaFault
-foreign_faults known own targets key = told_if (known.at key.resource.at) (faults_to known own key (target_of targets key.resource.url))
+foreign_faults known own targets key = told_if (known.at key.table.at) (faults_to known own key (named targets key.table))
 
 -- The names of the primary key and then of the row titles that are not columns of these names.
 abbrev pub own_faults : Known → List (List ℕ) → KeysFound → List MetaFault

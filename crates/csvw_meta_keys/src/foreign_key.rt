@@ -8,9 +8,11 @@ ghost use Rattle.csvw_meta_core.specs.Reads.{Reads};
 ghost use Rattle.csvw_meta_keys.specs.ForeignKeys.{foreign_key_names, foreign_key_of, joined};
 
 use crate::column_names::{ColumnNames, KeyName};
-use crate::reference::{ReferenceFound, ReferenceReader, Resource};
+use crate::reference::{NamedTable, ReferenceFound, ReferenceReader};
 use csvw_iri::Base;
-use csvw_meta_core::{CommonProperty, Listed, NumberedReader, Part, Reader, Refusal, joined};
+use csvw_meta_core::{
+    CommonProperty, Listed, NumberedReader, Part, Profile, Reader, Refusal, joined,
+};
 use csvw_text::{Fault, Place, Seq, Text, both};
 use serde_json::Value;
 use std::alloc::AllocError;
@@ -26,7 +28,7 @@ pub struct ForeignKeyFound {
     /// The names of the referring columns, 1 to 16 of them.
     pub columns: Seq<KeyName>,
     /// The table that is referenced.
-    pub resource: Resource,
+    pub table: NamedTable,
     /// The names of the referenced columns, 1 to 16 of them.
     pub referenced: Seq<KeyName>,
     /// A warning for each property of the foreign key that is ignored.
@@ -60,24 +62,36 @@ pub fn with_reference(
     Ok(ForeignKeyFound {
         at,
         columns,
-        resource: reference.resource,
+        table: reference.table,
         referenced: reference.columns,
         warnings,
     })
 }
 
-fn foreign_key_of(base: &Base, place: Place, part: &Part) -> Result<ForeignKeyFound, Refusal>
-    ensures { Reads result (foreign_key_of base.now place (text_of part.now.at) (view part.now.value.now)) }
+fn foreign_key_of(
+    profile: Profile,
+    base: &Base,
+    place: Place,
+    part: &Part,
+) -> Result<ForeignKeyFound, Refusal>
+    ensures { Reads result (foreign_key_of profile base.now place (text_of part.now.at) (view part.now.value.now)) }
 {
     let warnings = warnings_of(place, part)?;
     let columns = part.needed(&ColumnNames, "columnReference")?;
-    let reference = part.needed(&ReferenceReader { base, place }, "reference")?;
+    let reader = ReferenceReader {
+        profile,
+        base,
+        place,
+    };
+    let reference = part.needed(&reader, "reference")?;
     Ok(with_reference(part, warnings, columns, reference)?)
 }
 
 /// Reads a foreign key.
 #[derive(Drop)]
 pub struct ForeignKeyReader<'a> {
+    /// The profile.
+    pub profile: Profile,
     /// The base against which URLs are resolved.
     pub base: &'a Base,
     /// The place of the warnings.
@@ -89,11 +103,11 @@ impl<'a> NumberedReader for ForeignKeyReader<'a> {
 
     type Output = ForeignKeyFound;
 
-    ghost reads = { λ r n. foreign_key r.base.now r.place };
+    ghost reads = { λ r n. foreign_key r.profile r.base.now r.place };
 
     fn read(&self, _number: u32, part: &Part) -> Result<ForeignKeyFound, Refusal> {
         match part.value {
-            Value::Object(_) => foreign_key_of(self.base, self.place, part),
+            Value::Object(_) => foreign_key_of(self.profile, self.base, self.place, part),
             _ => Err(part.wrong()),
         }
     }

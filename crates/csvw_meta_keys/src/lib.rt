@@ -5,9 +5,11 @@
 //!
 //! - The keys and row titles of a schema are read, each name and URL with its pointer, or reported as a fault in them:
 //!   `read_keys` (`keys`). The faults are `BadProperty`, `TooMany` (over 16 columns or 64 foreign keys), `BadUrl`,
-//!   `UrlTooLong` and `NotSupported`. In the profile `Core` row titles are `NotSupported`.
+//!   `UrlTooLong` and `NotSupported`. In the profile `Core` row titles and references to schemas are `NotSupported`.
 //! - `check_keys` (`key_faults`) checks that each column and table that the keys and row titles name exists, and that
 //!   both sides of a foreign key are equally long. Else it returns `BadReference` at the name, the URL or the foreign key.
+//! - In the profile `W3c` a reference may name its table by the `@id` of the table's schema (`schemaReference`), which no
+//!   other table may have: `named` (`named`).
 //! - `primary_key`, `row_titles`, `foreign_keys` and `warnings` return the keys, the row titles and the warnings
 //!   (`names_of`, `described`, `all_warnings`).
 //!
@@ -25,4 +27,4 @@ pub use column_names::KeyName;
 pub use foreign_key::ForeignKeyFound;
 pub use keys::{KeysFound, read_keys};
 pub use naming::{Target, check_keys};
-pub use reference::Resource;
+pub use reference::{NamedBy, NamedTable};

@@ -1,12 +1,15 @@
 //! The check that what keys and row titles name exists: columns of their own table, and other tables of the group with
 //! their columns (Metadata Vocabulary for Tabular Data, sections 5.5, 5.5.1 and 5.5.2).
-ghost use Rattle.std.specs.Prelude.{◌≡◌, ◌∷◌, [], MatchOption, MatchResult, None, Some, flat_map};
+ghost use Rattle.std.specs.Prelude.{◌≡◌, ◌∷◌, [], MatchOption, MatchResult, None, Some, flat_map, if◌then◌else◌};
+ghost use Rattle.std.specs.List.{list_any};
 ghost use Rattle.csvw_meta_core.specs.Reads.{Fails};
-ghost use Rattle.csvw_meta_keys.specs.Naming.{all_known, bad_reference, foreign_faults, has_name, key_faults, name_faults, own_faults, side_faults, faults_to, target_of};
+ghost use Rattle.csvw_meta_keys.specs.Naming.{all_known, bad_reference, faults_to, foreign_faults, has_name, has_schema, key_faults, name_faults, named};
+ghost use Rattle.csvw_meta_keys.specs.Naming.{own_faults, side_faults, sole_of, target_of};
 
 use crate::column_names::KeyName;
 use crate::foreign_key::ForeignKeyFound;
 use crate::keys::KeysFound;
+use crate::reference::{NamedBy, NamedTable};
 use csvw_iri::Iri;
 use csvw_meta_core::{MetaCode, MetaFault, Refusal};
 use csvw_text::{Seq, Text};
@@ -17,6 +20,8 @@ use std::alloc::Global;
 pub struct Target {
     /// Its URL, made safe.
     pub url: Iri,
+    /// The `@id` of its schema, if the schema has one.
+    pub schema: Option<Iri>,
     /// The names of its declared columns.
     pub names: Seq<Text>,
 }
@@ -65,6 +70,58 @@ pub fn target_of<'a>(targets: &'a [Target], url: &str) -> Option<&'a Target>
     None
 }
 
+/// Returns whether the schema of a table has this `@id`.
+fn has_schema(target: &Target, id: &str) -> bool
+    ensures { result ≡ has_schema id.now target.now }
+{
+    match &target.schema {
+        Some(own) => own.as_str() == id,
+        None => false,
+    }
+}
+
+/// Returns whether the schema of one of the tables has this `@id`.
+fn some_has_schema(targets: &[Target], id: &str) -> bool
+    ensures { result ≡ list_any (has_schema id.now) targets.now }
+{
+    targets.iter().any(|t| has_schema(t, id))
+}
+
+/// Returns a table, or `None` if a later one has a schema with the same `@id`.
+fn unless_repeated<'a>(target: &'a Target, later: &'a [Target], id: &str) -> Option<&'a Target>
+    ensures { MatchOption result ((if list_any (has_schema id.now) later.now then None else Some target.now) ≡ None)
+        (λ t. (if list_any (has_schema id.now) later.now then None else Some target.now) ≡ Some t.now) }
+{
+    if some_has_schema(later, id) {
+        None
+    } else {
+        Some(target)
+    }
+}
+
+/// Returns the table whose schema has this `@id`, or `None` if there is none or more than one.
+pub fn sole_of<'a>(targets: &'a [Target], id: &str) -> Option<&'a Target>
+    ensures { MatchOption result (sole_of targets.now id.now ≡ None) (λ t. sole_of targets.now id.now ≡ Some t.now) }
+{
+    for (i, target) in targets.iter().enumerate() {
+        if has_schema(target, id) {
+            return unless_repeated(target, &targets[i + 1..], id);
+        }
+    }
+    None
+}
+
+/// Returns the table that a reference names among these, by its URL or by its schema. It is `None` if there is none, or
+/// more than one of the schema.
+pub fn named<'a>(targets: &'a [Target], table: &NamedTable) -> Option<&'a Target>
+    ensures { MatchOption result (named targets.now table.now ≡ None) (λ t. named targets.now table.now ≡ Some t.now) }
+{
+    match table.by {
+        NamedBy::Url => target_of(targets, table.url.as_str()),
+        NamedBy::Schema => sole_of(targets, table.url.as_str()),
+    }
+}
+
 /// Checks that both sides of a foreign key have equally many columns. Else the fault is `BadReference` at the key.
 fn check_sides(alloc: Global, key: &ForeignKeyFound) -> Result<(), Refusal>
     ensures { MatchResult result (λ _. side_faults all_known key.now ≡ []) (λ e. Fails e (side_faults all_known key.now)) }
@@ -100,9 +157,9 @@ fn check_foreign(
     ensures { MatchResult result (λ _. foreign_faults all_known own.now targets.now key.now ≡ [])
         (λ e. Fails e (foreign_faults all_known own.now targets.now key.now)) }
 {
-    match target_of(targets, key.resource.url.as_str()) {
+    match named(targets, &key.table) {
         Some(target) => check_table(alloc, own, target, key),
-        None => Err(refused(alloc, &key.resource.at)),
+        None => Err(refused(alloc, &key.table.at)),
     }
 }
 
@@ -132,9 +189,9 @@ fn check_own(alloc: Global, own: &[Text], keys: &KeysFound) -> Result<(), Refusa
 }
 
 /// Checks that what the keys and row titles of a schema name exists among the tables of its group. `own` has the names of
-/// the schema's columns. A missing name is `BadReference` at the name, and a missing table is `BadReference` at the URL.
-/// If the two sides of a foreign key have different numbers of columns, the fault is `BadReference` at the key. It
-/// returns `Memory` if there is no memory for the fault.
+/// the schema's columns. A missing name is `BadReference` at the name. A missing table is `BadReference` at the `resource`
+/// or the `schemaReference`, and so is a schema of more than one table. If the two sides of a foreign key have different
+/// numbers of columns, the fault is `BadReference` at the key. It returns `Memory` if there is no memory for the fault.
 #[tactic(auto, using(crate::proofs::ReadLemmas::fails_first))]
 pub fn check_keys(
     alloc: Global,

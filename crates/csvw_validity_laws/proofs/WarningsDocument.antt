@@ -1,7 +1,7 @@
 -- What is ignored in a document is reported only as warnings.
 use Rattle.std.proofs.Common.{◌≡◌, ℕ, ◌+◌, List, [], ◌∷◌, ◌++◌, Bool, true, false, Option, Some, None, refl, subst, codes, if◌then◌else◌, IfSome, All, map}
 use Rattle.std.proofs.Common.{flat_map, is_some}
-use Rattle.std.proofs.lemmas.List.Elements.{All-cons, All-head, All-map, All-nil, All-tail}
+use Rattle.std.proofs.lemmas.List.Elements.{All-cons, All-head, All-map, All-nil, All-tail, All-weaker}
 use Rattle.serde_json.specs.Data.{Data}
 use Rattle.serde_json.specs.Data as json
 use Rattle.serde_json.specs.Find.{get}
@@ -10,11 +10,14 @@ use Rattle.csvw_fault.specs.declared.fault.Fault.{Fault}
 use Rattle.csvw_description.specs.Unknown.{in_schema, in_table, unknown}
 use Rattle.csvw_description.specs.declared.column.ColumnDescription.{ColumnDescription}
 use Rattle.csvw_description.specs.declared.description.Description.{Description}
+use Rattle.csvw_description.specs.declared.schema.Schema.{Schema}
 use Rattle.csvw_meta_core.specs.declared.fault.MetaFault.{MetaFault}
-use Rattle.csvw_meta_core.specs.Links.{no_url}
+use Rattle.csvw_meta_core.specs.Links.{id, no_url}
 use Rattle.csvw_meta_core.specs.Read.{Read, optional, over_faults, property}
 use Rattle.csvw_meta_keys.specs.Described as described_keys
 use Rattle.csvw_meta_keys.specs.Keys.{keys}
+use Rattle.csvw_meta_keys.specs.declared.keys.KeysFound.{KeysFound}
+use Rattle.csvw_meta_keys.specs.declared.naming.Target.{Target}
 use Rattle.csvw_meta_notes.specs.Unlisted.{all_warnings, unlisted}
 use Rattle.csvw_meta_datatype.specs.Datatypes.{datatype}
 use Rattle.csvw_meta_datatype.specs.declared.form.DatatypeFound.{DatatypeFound}
@@ -28,7 +31,9 @@ use Rattle.csvw_meta_inherited.specs.Datatype as datatypes
 use Rattle.csvw_meta.specs.Described.{described, group_of, parts, sole_table, within}
 use Rattle.csvw_meta_dialect.specs.Dialect.{dialect, dialect_of, no_dialect}
 use Rattle.csvw_meta.specs.Document.{Document, document_by, group_in, judged, length_of, of_bytes, of_json, of_short, own_url, plain_description}
+use Rattle.csvw_meta.specs.ForeignKeys.{linked, linked_table}
 use Rattle.csvw_meta.specs.Group.{description_of, group, no_group, tables}
+use Rattle.csvw_meta.specs.References.{targets}
 use Rattle.csvw_meta_inherited.specs.Inherited.{inherited}
 use Rattle.csvw_meta.specs.IfRead.{unless}
 use Rattle.csvw_meta.specs.Json.{json_of, without_bom}
@@ -135,7 +140,8 @@ schema_of_quiet context table at d =
     let ignored = (unlisted context.base context.language names place at d).value in
     let found = (inherited context table 0 at d).value in
     let own = found.warnings ++ ignored in
-    let ks = (keys context.profile context.base place at d).value in
+    let iri = (optional (id context.base) at d (codes "@id")).value in
+    let ks = (keys context.profile context.base place iri at d).value in
     let of_keys = described_keys.all_warnings ks.foreign in
     let read = (property (columns context table) [] at d (codes "columns")).value in
     let titles = described_keys.names_of ks.row_titles in
@@ -143,7 +149,7 @@ schema_of_quiet context table at d =
     quiet_join (own ++ of_keys) (flat_map (λ (c : ColumnDescription). c.warnings) cs)
     (quiet_join own of_keys
     (quiet_join found.warnings ignored (inherited_quiet context table 0 at d) (unlisted_quiet context.base context.language names place at d))
-    (keys_quiet context.profile context.base place at d))
+    (keys_quiet context.profile context.base place iri at d))
     (quiet_flat (λ (c : ColumnDescription). c.warnings) cs
     (titled_quiet titles 0 read
     (property_value (All IsQuietColumn) (columns context table) (columns_quiet context table) [] (All-nil IsQuietColumn) at d (codes "columns"))))
@@ -246,13 +252,31 @@ sole_quiet context at d = record {
 abbrev IsQuiet : Description → Type 0
 IsQuiet d = Quiet (unknown d)
 
+-- The foreign keys of a schema have no warnings of their own.
+linked_quiet : (to : List Target) (schema : Option Schema) (keys : Option KeysFound) → Quiet (in_schema schema) → Quiet (in_schema (linked to schema keys))
+linked_quiet to None keys q = q
+linked_quiet to (Some schema) None q = q
+linked_quiet to (Some schema) (Some keys) q = q
+
+same_warnings : (to : List Target) (schema : Option Schema) (keys : Option KeysFound) → in_schema schema ≡ in_schema (linked to schema keys)
+same_warnings to None keys = refl
+same_warnings to (Some schema) None = refl
+same_warnings to (Some schema) (Some keys) = refl
+
+table_linked : (to : List Target) (t : TableFound) → IsQuietTable t → Quiet (in_table (linked_table to t))
+table_linked to t q = subst (λ fs. Quiet (t.table.warnings ++ fs)) (same_warnings to t.table.schema t.keys) q
+
 description_quiet : (g : GroupFound) → IsQuietGroup g → IsQuiet (description_of g)
 description_quiet g q =
     let own = g.body.warnings ++ g.given.warnings in
-    quiet_join (own ++ in_schema g.body.schema) (flat_map in_table (map (λ t. t.table) g.tables))
-    (quiet_join own (in_schema g.body.schema) (quiet_join g.body.warnings g.given.warnings q.body.warnings q.given) q.body.schema)
-    (quiet_flat in_table (map (λ t. t.table) g.tables)
-    (All-map (λ t. Quiet (in_table t)) (λ (t : TableFound). t.table) g.tables q.tables))
+    let to = targets g in
+    let schema = linked to g.body.schema g.body.keys in
+    quiet_join (own ++ in_schema schema) (flat_map in_table (map (linked_table to) g.tables))
+    (quiet_join own (in_schema schema) (quiet_join g.body.warnings g.given.warnings q.body.warnings q.given)
+    (linked_quiet to g.body.schema g.body.keys q.body.schema))
+    (quiet_flat in_table (map (linked_table to) g.tables)
+    (All-map (λ t. Quiet (in_table t)) (linked_table to) g.tables
+    (All-weaker IsQuietTable (λ t. Quiet (in_table (linked_table to t))) (table_linked to) g.tables q.tables)))
 
 either_quiet : (b : Bool) (r s : Read GroupFound) → IsQuietGroup r.value → IsQuietGroup s.value → IsQuietGroup (if b then r else s).value
 either_quiet true r s p q = p

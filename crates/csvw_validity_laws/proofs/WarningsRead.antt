@@ -250,7 +250,7 @@ whichever_value P values dummy (f ∷ fs) a next none h = none
 based_quiet : (profile : Profile) (id : Option (List ℕ)) (place : Place) (at : List ℕ) (d : Data) → IsQuietDatatype (based profile id place at d).value
 based_quiet profile id place at d =
     let simple = property (base profile) simples.Text at d (codes "base") in
-    whichever_value IsQuietDatatype (simples_of profile) (named profile simples.Text) simple.faults simple.value (of_type profile id place at d) refl (of_type_quiet profile id place at d)
+    whichever_value IsQuietDatatype (simples_of profile) (named simples.Text) simple.faults simple.value (of_type profile id place at d) refl (of_type_quiet profile id place at d)
 
 form_quiet : (profile : Profile) (against : Parts) (place : Place) (at : List ℕ) (d : Data) → IsQuietDatatype (form profile against place at d).value
 unfolding form
@@ -280,37 +280,39 @@ IsQuietReference found = Quiet found.warnings
 abbrev IsQuietKey : ForeignKeyFound → Type 0
 IsQuietKey found = Quiet found.warnings
 
-reference_of_quiet : (base : Parts) (place : Place) (at : List ℕ) (d : Data) → IsQuietReference (reference_of base place at d).value
+reference_of_quiet : (profile : Profile) (base : Parts) (place : Place) (at : List ℕ) (d : Data) → IsQuietReference (reference_of profile base place at d).value
 unfolding reference_of
-reference_of_quiet base place at d = others_quiet (reference_names ++ []) Refused place at d
+reference_of_quiet profile base place at d = others_quiet (reference_names ++ []) Refused place at d
 
-reference_quiet : (base : Parts) (place : Place) (at : List ℕ) (d : Data) → IsQuietReference (reference base place at d).value
-reference_quiet base place at d =
-    object_value IsQuietReference at d (no_reference at) (reference_of base place at d) refl (reference_of_quiet base place at d)
+reference_quiet : (profile : Profile) (base : Parts) (place : Place) (at : List ℕ) (d : Data) → IsQuietReference (reference profile base place at d).value
+reference_quiet profile base place at d =
+    object_value IsQuietReference at d (no_reference at) (reference_of profile base place at d) refl (reference_of_quiet profile base place at d)
 
-foreign_key_of_quiet : (base : Parts) (place : Place) (at : List ℕ) (d : Data) → IsQuietKey (foreign_key_of base place at d).value
+foreign_key_of_quiet : (profile : Profile) (base : Parts) (place : Place) (at : List ℕ) (d : Data) → IsQuietKey (foreign_key_of profile base place at d).value
 unfolding foreign_key_of
-foreign_key_of_quiet base place at d =
+foreign_key_of_quiet profile base place at d =
     quiet_join (others (foreign_key_names ++ []) Refused place at d).value
-    (needed (reference base place) (no_reference at) at d (codes "reference")).value.warnings
+    (needed (reference profile base place) (no_reference at) at d (codes "reference")).value.warnings
     (others_quiet (foreign_key_names ++ []) Refused place at d)
-    (needed_value IsQuietReference (reference base place) (reference_quiet base place) (no_reference at) refl at d (codes "reference"))
+    (needed_value IsQuietReference (reference profile base place) (reference_quiet profile base place) (no_reference at) refl at d (codes "reference"))
 
-foreign_key_quiet : (base : Parts) (place : Place) (at : List ℕ) (d : Data) → IsQuietKey (foreign_key base place at d).value
-foreign_key_quiet base place at d =
-    object_value IsQuietKey at d (no_foreign_key at) (foreign_key_of base place at d) refl (foreign_key_of_quiet base place at d)
+foreign_key_quiet : (profile : Profile) (base : Parts) (place : Place) (at : List ℕ) (d : Data) → IsQuietKey (foreign_key profile base place at d).value
+foreign_key_quiet profile base place at d =
+    object_value IsQuietKey at d (no_foreign_key at) (foreign_key_of profile base place at d) refl (foreign_key_of_quiet profile base place at d)
 
-foreign_keys_quiet : (base : Parts) (place : Place) (at : List ℕ) (d : Data) → All IsQuietKey (foreign_keys base place at d).value
-foreign_keys_quiet base place at (array ds) = each_value IsQuietKey (λ n. foreign_key base place) (λ n. foreign_key_quiet base place) at 0 ds
-foreign_keys_quiet base place at null = All-nil IsQuietKey
-foreign_keys_quiet base place at (boolean b) = All-nil IsQuietKey
-foreign_keys_quiet base place at (number n) = All-nil IsQuietKey
-foreign_keys_quiet base place at (string s) = All-nil IsQuietKey
-foreign_keys_quiet base place at (object ms) = All-nil IsQuietKey
+foreign_keys_quiet : (profile : Profile) (base : Parts) (place : Place) (at : List ℕ) (d : Data) → All IsQuietKey (foreign_keys profile base place at d).value
+foreign_keys_quiet profile base place at (array ds) =
+    each_value IsQuietKey (λ n. foreign_key profile base place) (λ n. foreign_key_quiet profile base place) at 0 ds
+foreign_keys_quiet profile base place at null = All-nil IsQuietKey
+foreign_keys_quiet profile base place at (boolean b) = All-nil IsQuietKey
+foreign_keys_quiet profile base place at (number n) = All-nil IsQuietKey
+foreign_keys_quiet profile base place at (string s) = All-nil IsQuietKey
+foreign_keys_quiet profile base place at (object ms) = All-nil IsQuietKey
 
-pub keys_quiet : (profile : Profile) (base : Parts) (place : Place) (at : List ℕ) (d : Data)
-    → Quiet (described.all_warnings (keys profile base place at d).value.foreign)
+pub keys_quiet : (profile : Profile) (base : Parts) (place : Place) (id : Option (List ℕ)) (at : List ℕ) (d : Data)
+    → Quiet (described.all_warnings (keys profile base place id at d).value.foreign)
 unfolding keys
-keys_quiet profile base place at d =
-    quiet_flat (λ (k : ForeignKeyFound). k.warnings) (property (foreign_keys base place) [] at d (codes "foreignKeys")).value
-    (property_value (All IsQuietKey) (foreign_keys base place) (foreign_keys_quiet base place) [] (All-nil IsQuietKey) at d (codes "foreignKeys"))
+keys_quiet profile base place id at d =
+    quiet_flat (λ (k : ForeignKeyFound). k.warnings) (property (foreign_keys profile base place) [] at d (codes "foreignKeys")).value
+    (property_value (All IsQuietKey) (foreign_keys profile base place) (foreign_keys_quiet profile base place) [] (All-nil IsQuietKey) at d
+    (codes "foreignKeys"))

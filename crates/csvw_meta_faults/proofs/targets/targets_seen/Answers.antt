@@ -10,6 +10,7 @@ use Rattle.csvw_meta_faults.proofs.targets.targets_seen.Goals as goal
 pub loop-i-preserved : goal.loop-i-preserved
 loop-i-preserved c =
     rw c.in_ok-push.ensures.items
-    (targets_more (table_at (is_some (get (codes "tables") (view c.args.part.now.value.now))) (text_of c.args.part.now.at)) c.args.marks.now.faults.now
+    (targets_more (table_at (is_some (get (codes "tables") (view c.args.part.now.value.now))) (text_of c.args.part.now.at))
+    c.args.group.now.at.now c.args.group.now.keys.now c.args.group.now.marks.now.faults.now
     c.args.tables.now _ c.loop-i.targets.items c.loop-i.i c.index-tables-i.result c.in_ok-target.target c.loop-i-test.true c.index-tables-i.is
     c.loop-i.invariant c.in_ok-target.ensures)

@@ -11,6 +11,7 @@ use Rattle.csvw_meta_faults.proofs.targets.targets_seen.Given as goal
 abbrev pub invariant-loop-i : goal.invariant-loop-i
 invariant-loop-i l =
     l.targets.items
-    ++ seen_targets (table_at (is_some (get (codes "tables") (view l.part.value.now))) (text_of l.part.at)) l.marks.faults.now l.i
-    (map as_table (drop l.i l.tables))
-    ≡ seen_targets (table_at (is_some (get (codes "tables") (view l.part.value.now))) (text_of l.part.at)) l.marks.faults.now 0 (map as_table l.tables)
+    ++ seen_targets (table_at (is_some (get (codes "tables") (view l.part.value.now))) (text_of l.part.at)) l.group.at.now l.group.keys.now
+    l.group.marks.now.faults.now l.i (map as_table (drop l.i l.tables))
+    ≡ seen_targets (table_at (is_some (get (codes "tables") (view l.part.value.now))) (text_of l.part.at)) l.group.at.now l.group.keys.now
+    l.group.marks.now.faults.now 0 (map as_table l.tables)

@@ -11,7 +11,7 @@ use Rattle.csvw_meta_faults.proofs.within.find_to_targets.Goals as goal
 pub find_in_group-requires : goal.find_in_group-requires
 find_in_group-requires c =
     let place = table_at (is_some (get (codes "tables") (view c.args.part.now.value.now))) (text_of c.args.part.now.at) in
-    ap length c.requires ∙ length_targets place c.args.marks.now.faults.now 0 c.args.group.now.tables
+    ap length c.requires ∙ length_targets place (text_of c.args.part.now.at) c.args.group.now.keys c.args.marks.now.faults.now 0 c.args.group.now.tables
 
 pub returns : goal.returns
 returns c =
@@ -21,5 +21,6 @@ returns c =
     subst (λ (fs : List MetaFault). OnOk c.find_in_group.result (c.find_in_group.new.faults.items ≡ c.args.faults.now.items ++ fs))
     (scene_faults _ c.args.group.now place at faults refl c.requires c.in_ok-group_names.ensures
     (rw (c.as_str.ensures, c.in_ok-at.ensures) at c.in_ok-group_hidden.ensures)
-    (rw (c.as_str-2.ensures, c.in_ok-at.ensures) at c.in_ok-urls_known.ensures))
+    (rw (c.as_str-2.ensures, c.in_ok-at.ensures) at c.in_ok-urls_known.ensures)
+    (rw (c.as_str-3.ensures, c.in_ok-at.ensures) at c.in_ok-ids_known.ensures))
     c.find_in_group.ensures

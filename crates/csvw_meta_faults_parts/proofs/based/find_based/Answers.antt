@@ -19,7 +19,7 @@ returns-in-Ok c = λ id place.
     let at = text_of c.args.part.now.at in
     let d = view c.args.part.now.value.now in
     let P = λ (r : Read Simple). OnOk c.find_of_type.result (c.find_of_type.new.faults.items ≡ c.args.faults.now.items
-    ++ (whichever (simples_of c.args.profile) (named c.args.profile Text) r (of_type c.args.profile id place at d)).faults) in
+    ++ (whichever (simples_of c.args.profile) (named Text) r (of_type c.args.profile id place at d)).faults) in
     subst P (sym c.in-Ok.ensures) (c.find_of_type.ensures id place)
 
 pub returns-in-Err-Fault : goal.returns-in-Err-Fault
@@ -30,4 +30,4 @@ returns-in-Err-Fault c = λ id place.
     let has : Contains r.faults c.in-Err-Fault.fault = rw c.in-Err-Fault.field-0-is at c.in-Err-Fault.ensures in
     let one = is_sole r.faults c.in-Err-Fault.fault (given_has_one c.args.profile (below at (codes "base")) (get (codes "base") d)) has in
     subst (λ (fs : List MetaFault). OnOk c.add_of_any.result (c.add_of_any.new.faults.items ≡ c.args.faults.now.items ++ fs))
-    (sym (by_one (simples_of c.args.profile) (named c.args.profile Text) r.faults c.in-Err-Fault.fault r.value (of_type c.args.profile id place at d) one)) (c.add_of_any.ensures id place)
+    (sym (by_one (simples_of c.args.profile) (named Text) r.faults c.in-Err-Fault.fault r.value (of_type c.args.profile id place at d) one)) (c.add_of_any.ensures id place)

@@ -1,5 +1,5 @@
 -- The number of items is within the limits.
-use Rattle.std.proofs.Common.{◌≡◌, sym, append-nil}
+use Rattle.std.proofs.Common.{sym, append-nil}
 use Rattle.csvw_meta_core.specs.Pointer.{text_of}
 use Rattle.csvw_meta_faults_parts.proofs.FaultsLemmas.{count_none}
 use Rattle.csvw_meta_faults_parts.proofs.count.find_count.Goals as goal

@@ -9,5 +9,7 @@ use Rattle.csvw_meta_faults_parts.proofs.keys.find_each.Given as goal
 
 abbrev pub invariant-loop-i : goal.invariant-loop-i
 invariant-loop-i l =
-    (place : Place) → l.faults.items ++ (each_numbered (λ n. foreign_key l.base place) (text_of l.part.at) l.i (items_view (drop l.i l.items))).faults
-    ≡ l.initial.faults.items ++ (each_numbered (λ n. foreign_key l.base place) (text_of l.part.at) 0 (items_view l.items)).faults
+    (place : Place)
+    → l.faults.items
+    ++ (each_numbered (λ n. foreign_key l.context.profile l.context.base place) (text_of l.part.at) l.i (items_view (drop l.i l.items))).faults
+    ≡ l.initial.faults.items ++ (each_numbered (λ n. foreign_key l.context.profile l.context.base place) (text_of l.part.at) 0 (items_view l.items)).faults

@@ -6,5 +6,5 @@ use Rattle.csvw_meta_faults_parts.proofs.keys.find_keys.Goals as goal
 
 pub returns : goal.returns
 unfolding keys
-returns c = λ place.
+returns c = λ place id.
     simp append-nil (simp append_assoc at (rw (c.in_ok-find_property-2.ensures [], c.in_ok-find_property.ensures []) at (c.find_foreign_keys.ensures place)))

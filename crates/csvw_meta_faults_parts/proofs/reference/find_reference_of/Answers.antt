@@ -2,15 +2,10 @@
 use Rattle.std.proofs.Common.{append_assoc, []}
 use Rattle.std.proofs.lemmas.List.{append-nil}
 use Rattle.csvw_meta_keys.specs.References.{reference_of}
-use Rattle.csvw_meta_core.specs.Pointer.{text_of}
-use Rattle.csvw_meta_keys.specs.References.{no_resource}
 use Rattle.csvw_meta_faults_parts.proofs.reference.find_reference_of.Goals as goal
 
 pub returns : goal.returns
 unfolding reference_of
 returns c = λ place.
-    simp append-nil (simp append_assoc at (rw (
-      (c.in_ok-find_needed.ensures (no_resource (text_of c.args.part.now.at))),
-      (c.in_ok-find_refused.ensures place),
-      c.in_ok-find_optional.ensures,
-    ) at (c.find_needed-2.ensures [])))
+    simp append-nil (simp append_assoc at (rw (c.in_ok-find_table.ensures, c.in_ok-find_refused.ensures place, c.in_ok-find_schema.ensures)
+    at (c.find_needed.ensures [])))

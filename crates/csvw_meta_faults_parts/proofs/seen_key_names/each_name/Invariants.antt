@@ -1,8 +1,6 @@
 -- The names that are read, and then those of the remaining items, are all names.
 use Rattle.std.proofs.Common.{◌≡◌, ◌++◌, drop}
-use Rattle.serde_json.specs.View.{items_view}
 use Rattle.csvw_meta_core.specs.Pointer.{text_of}
-use Rattle.csvw_meta_core.specs.Read.{each_numbered}
 use Rattle.csvw_meta_keys.specs.ColumnNames.{key_name}
 use Rattle.csvw_meta_faults_parts.proofs.ItemsLemmas.{values_from}
 use Rattle.csvw_meta_faults_parts.proofs.seen_key_names.each_name.Given as goal

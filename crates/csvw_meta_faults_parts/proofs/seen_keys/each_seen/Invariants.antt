@@ -9,5 +9,5 @@ use Rattle.csvw_meta_faults_parts.proofs.seen_keys.each_seen.Given as goal
 
 abbrev pub invariant-loop-i : goal.invariant-loop-i
 invariant-loop-i l =
-    (place : Place) → l.keys.items ++ values_from bare_key (λ n. foreign_key l.base place) (text_of l.part.at) l.i (drop l.i l.items)
-    ≡ values_from bare_key (λ n. foreign_key l.base place) (text_of l.part.at) 0 l.items
+    (place : Place) → l.keys.items ++ values_from bare_key (λ n. foreign_key l.context.profile l.context.base place) (text_of l.part.at) l.i (drop l.i l.items)
+    ≡ values_from bare_key (λ n. foreign_key l.context.profile l.context.base place) (text_of l.part.at) 0 l.items

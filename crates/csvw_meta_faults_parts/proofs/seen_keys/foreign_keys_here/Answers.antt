@@ -14,5 +14,5 @@ returns c = λ place.
     let at = text_of c.args.part.now.at in
     let d = view c.args.part.now.value.now in
     subst (λ (ks : List ForeignKeyFound). IfOk c.each_seen.result (λ found. found ≡ map bare_key ks))
-    (sym (several_value 0 MAX_FOREIGN_KEYS (λ n. foreign_key c.args.base.now place) at d))
+    (sym (several_value 0 MAX_FOREIGN_KEYS (λ n. foreign_key c.args.context.now.profile c.args.context.now.base place) at d))
     (rw c.array_items.ensures at (c.each_seen.ensures place))
