@@ -4,18 +4,27 @@ use Rattle.std.specs.List.{filter}
 use Rattle.std.specs.Option.{is_some}
 use Rattle.std.specs.Str.{chars}
 use Rattle.csvw_datatype_core.specs.declared.number.NumberRules.{NumberRules}
+use Rattle.csvw_datatype_core.specs.declared.clock.ClockFormat.TheVariants as clocks
 use Rattle.csvw_datatype_core.specs.declared.date.DateFormat.{DateFormat}
+use Rattle.csvw_datatype_core.specs.declared.date.DateFormat.TheVariants.{YearFirst}
+use Rattle.csvw_datatype_core.specs.declared.stamp_format.OffsetForm.{OffsetForm}
+use Rattle.csvw_datatype_core.specs.declared.stamp_format.OffsetForm.TheVariants as forms
+use Rattle.csvw_datatype_core.specs.declared.stamp_format.UtcMark.TheVariants as marks
+use Rattle.csvw_datatype_core.specs.declared.stamp_format.ZoneGap.TheVariants as gaps
+use Rattle.csvw_datatype_core.specs.declared.stamp_format.ZoneFormat.{ZoneFormat}
+use Rattle.csvw_datatype_core.specs.declared.stamp_format.StampFormat.{StampFormat}
 use Rattle.csvw_datatype_core.specs.declared.moment.MomentFormat.TheVariants.{Seconds, Minutes, Spaced}
 use Rattle.csvw_datatype_core.specs.declared.time.TimeFormat.{TimeFormat}
 use Rattle.csvw_datatype_core.specs.declared.time.TimeFormat.TheVariants as times
 use Rattle.csvw_datatype_core.specs.declared.date_time.Zone.TheVariants.{Optional}
 use Rattle.csvw_datatype_core.specs.Values.{number_value, date_value, moment_value}
-use Rattle.csvw_datatype_core.specs.Times.{time_form}
+use Rattle.csvw_datatype_core.specs.Clocks.{clock_form}
+use Rattle.csvw_datatype_core.specs.Stamps.{stamp_value}
 use Rattle.csvw_datatype_core.specs.DateTimes.{date_time_value}
 use Rattle.csvw_double.specs.Forms.{double_form}
 use Rattle.csvw_meta_core.specs.declared.profile.Profile.{Profile}
 use Rattle.csvw_meta_core.specs.declared.profile.Profile.TheVariants.{Core, W3c}
-use Rattle.csvw_meta_datatype.specs.Patterns.{date_formats}
+use Rattle.csvw_datatype_core.specs.PatternLists.{date_formats}
 use Rattle.csvw_draft.specs.declared.kind.Kind.{Kind}
 use Rattle.csvw_draft.specs.declared.kind.Kind.TheVariants as kinds
 use Rattle.csvw_draft.specs.declared.grouping.GroupChar.TheVariants.{Space, NoBreakSpace, NarrowNoBreakSpace, Apostrophe}
@@ -37,7 +46,8 @@ reads (kinds.Grouped g) text = is_some (grouped_value g text)
 reads (kinds.Day format) text = is_some (date_value format text)
 reads (kinds.Moment format) text = is_some (moment_value format text)
 reads kinds.Double text = is_some (double_form text)
-reads (kinds.Time format) text = is_some (time_form format text)
+reads (kinds.Time format) text = is_some (clock_form format text)
+reads (kinds.Stamp format) text = is_some (stamp_value format Optional text)
 reads kinds.MomentWithZone text = is_some (date_time_value Optional text)
 reads kinds.Text text = true
 
@@ -67,11 +77,30 @@ core_kinds =
 abbrev pub spaced_kinds : TimeFormat → List DateFormat → List Kind
 spaced_kinds time dates = map (λ date. kinds.Moment (Spaced date time)) dates
 
+-- a zone at the end of a moment: "Z", or an offset in a form
+abbrev pub zone_of : OffsetForm → ZoneFormat
+zone_of form = record { form = form; utc = marks.Allowed; gap = gaps.None }
+
+-- the moments that databases write: a date, a space, a time with up to nine digits of a fraction, and a zone or none
+abbrev pub database_format : Option ZoneFormat → StampFormat
+database_format zone = record { moment = Spaced YearFirst times.Seconds; digits = 9; zone = zone }
+
+abbrev pub stamp_kinds : List Kind
+stamp_kinds =
+    kinds.Stamp (database_format None) ∷ kinds.Stamp (database_format (Some (zone_of forms.Short)))
+    ∷ kinds.Stamp (database_format (Some (zone_of forms.Extended))) ∷ []
+
+abbrev pub all_spaced_kinds : List Kind
+all_spaced_kinds = spaced_kinds times.Seconds date_formats ++ spaced_kinds times.Minutes date_formats
+
+-- moments with a space
+abbrev pub moment_kinds : List Kind
+moment_kinds = all_spaced_kinds ++ stamp_kinds
+
 -- the datatypes that a document of the profile w3c may use besides
 abbrev pub w3c_kinds : List Kind
 w3c_kinds =
-    (kinds.Double ∷ kinds.Time times.Seconds ∷ kinds.Time times.Minutes ∷ kinds.MomentWithZone ∷ [])
-    ++ (spaced_kinds times.Seconds date_formats ++ spaced_kinds times.Minutes date_formats)
+    (kinds.Double ∷ kinds.Time clocks.Any ∷ kinds.Time (clocks.Whole times.Minutes) ∷ kinds.MomentWithZone ∷ []) ++ moment_kinds
 
 -- decimals may have a comma where `;` is the delimiter
 abbrev pub comma_kinds : ℕ → List Kind
@@ -95,6 +124,7 @@ is_core (kinds.Moment (Spaced date time)) = false
 is_core kinds.Double = false
 is_core (kinds.Time format) = false
 is_core kinds.MomentWithZone = false
+is_core (kinds.Stamp format) = false
 is_core kinds.Text = true
 
 -- the datatype in a document of a profile, or `string` if such a document can't use it

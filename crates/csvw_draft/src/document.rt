@@ -4,7 +4,7 @@ use crate::column::Column;
 use crate::form::{Comments, Form};
 use crate::keys::{ForeignKey, Named, foreign_keys, key_name, name_at};
 use crate::kind::Kind;
-use csvw_datatype_core::{DateFormat, MomentFormat, TimeFormat};
+use csvw_datatype_core::{ClockFormat, DateFormat, MomentFormat, StampFormat};
 use serde::Serialize;
 use serde_json::to_string_pretty;
 use std::alloc::{AllocError, Global};
@@ -188,6 +188,26 @@ fn moment_part(alloc: Global, format: MomentFormat) -> Result<DatatypePart, Allo
     })
 }
 
+/// Returns the datatype of moments in a format that may have a zone. Returns `AllocError` if memory runs out.
+fn stamp_part(alloc: Global, format: StampFormat) -> Result<DatatypePart, AllocError> {
+    let mut pattern = String::new(alloc);
+    format.push_pattern(&mut pattern)?;
+    Ok(DatatypePart::WithPattern {
+        base: "dateTime",
+        format: pattern,
+    })
+}
+
+/// Returns the datatype of times of day in a format. Returns `AllocError` if memory runs out.
+fn time_part(alloc: Global, format: ClockFormat) -> Result<DatatypePart, AllocError> {
+    let mut pattern = String::new(alloc);
+    format.push_pattern(&mut pattern)?;
+    Ok(DatatypePart::WithPattern {
+        base: "time",
+        format: pattern,
+    })
+}
+
 /// Returns a datatype, or `None` for `string`, which is the default. Returns `AllocError` if memory runs out.
 fn datatype_part(alloc: Global, kind: Kind) -> Result<Option<DatatypePart>, AllocError> {
     let base = kind.name();
@@ -209,16 +229,14 @@ fn datatype_part(alloc: Global, kind: Kind) -> Result<Option<DatatypePart>, Allo
         },
         Kind::Day(DateFormat::YearFirst)
         | Kind::Moment(MomentFormat::Seconds)
-        | Kind::Time(TimeFormat::Seconds) => DatatypePart::Name(base),
+        | Kind::Time(ClockFormat::Any) => DatatypePart::Name(base),
         Kind::Day(format) => DatatypePart::WithFormat {
             base,
             format: format.pattern(),
         },
         Kind::Moment(format) => moment_part(alloc, format)?,
-        Kind::Time(format) => DatatypePart::WithFormat {
-            base,
-            format: format.pattern(),
-        },
+        Kind::Stamp(format) => stamp_part(alloc, format)?,
+        Kind::Time(format) => time_part(alloc, format)?,
         Kind::Truth | Kind::Whole | Kind::Decimal | Kind::Double | Kind::MomentWithZone => {
             DatatypePart::Name(base)
         }

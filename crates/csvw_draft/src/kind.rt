@@ -1,14 +1,14 @@
 //! The datatypes that a draft gives to columns.
 ghost use Rattle.std.specs.Prelude.{◌≡◌, ◌++◌, IfOk, OnOk};
 ghost use Rattle.csvw_draft.specs.declared.kind.Kind.TheVariants as kinds;
-ghost use Rattle.csvw_draft.specs.Kinds.{core_kinds, day_kinds, grouped_kinds, kinds_of, spaced_kinds, w3c_kinds};
+ghost use Rattle.csvw_draft.specs.Kinds.{all_spaced_kinds, core_kinds, database_format, day_kinds, grouped_kinds, kinds_of, moment_kinds, spaced_kinds, stamp_kinds, w3c_kinds, zone_of};
 
 use crate::grouping::{Fraction, GroupChar, Grouping};
 use crate::value::{date_time_as_value, truth_of};
 use csvw_datatype::{Value, day_of, moment_of, number_of};
 use csvw_datatype_core::{
-    DATE_FORMATS, DateFormat, MomentFormat, NumberRules, TimeFormat, Zone, read_date_time,
-    time_text,
+    ClockFormat, DATE_FORMATS, DateFormat, MomentFormat, NumberRules, OffsetForm, StampFormat,
+    TimeFormat, UtcMark, Zone, ZoneFormat, ZoneGap, clock_text, read_date_time, read_stamp,
 };
 use csvw_double::double_of;
 use csvw_meta::Profile;
@@ -55,10 +55,12 @@ pub enum Kind {
     Moment(MomentFormat),
     /// `double`, in the profile w3c.
     Double,
-    /// `time` in a format, in the profile w3c.
-    Time(TimeFormat),
+    /// `time`, in the profile w3c: in a format, or with parts of a second.
+    Time(ClockFormat),
     /// `dateTime` that may have a zone and parts of a second, in the profile w3c.
     MomentWithZone,
+    /// `dateTime` in a format that may have a zone and parts of a second, in the profile w3c.
+    Stamp(StampFormat),
     /// `string`.
     Text,
 }
@@ -108,17 +110,65 @@ fn push_spaced(
     Ok(())
 }
 
+/// Returns the zone at the end of a moment: `Z`, or an offset in a form.
+fn zone_of(form: OffsetForm) -> ZoneFormat
+    ensures { result ≡ zone_of form }
+{
+    ZoneFormat {
+        form,
+        utc: UtcMark::Allowed,
+        gap: ZoneGap::None,
+    }
+}
+
+/// Returns the moments that databases write: a date, a space, a time with up to nine digits of a fraction, and a zone or none.
+fn database_format(zone: Option<ZoneFormat>) -> StampFormat
+    ensures { result ≡ database_format zone }
+{
+    StampFormat {
+        moment: MomentFormat::Spaced(DateFormat::YearFirst, TimeFormat::Seconds),
+        digits: 9,
+        zone,
+    }
+}
+
+/// Adds the moments that databases write. Returns `AllocError` if memory runs out.
+fn push_stamps(kinds: &mut Vec<Kind>) -> Result<(), AllocError>
+    ensures { OnOk result (kinds.new.items ≡ kinds.old.items ++ stamp_kinds) }
+{
+    let (short, extended) = (zone_of(OffsetForm::Short), zone_of(OffsetForm::Extended));
+    kinds.push(Kind::Stamp(database_format(None)))?;
+    kinds.push(Kind::Stamp(database_format(Some(short))))?;
+    kinds.push(Kind::Stamp(database_format(Some(extended))))?;
+    Ok(())
+}
+
+/// Adds `dateTime` with a space for each format of dates. Returns `AllocError` if memory runs out.
+fn push_all_spaced(kinds: &mut Vec<Kind>) -> Result<(), AllocError>
+    ensures { OnOk result (kinds.new.items ≡ kinds.old.items ++ all_spaced_kinds) }
+{
+    push_spaced(kinds, TimeFormat::Seconds, &DATE_FORMATS)?;
+    push_spaced(kinds, TimeFormat::Minutes, &DATE_FORMATS)
+}
+
+/// Adds `dateTime` with a space in each format. Returns `AllocError` if memory runs out.
+fn push_moments(kinds: &mut Vec<Kind>) -> Result<(), AllocError>
+    ensures { OnOk result (kinds.new.items ≡ kinds.old.items ++ moment_kinds) }
+{
+    push_all_spaced(kinds)?;
+    push_stamps(kinds)
+}
+
 /// Adds the datatypes that a document of the profile w3c may use besides. Those in front of them are narrower, or have other
 /// texts. Returns `AllocError` if memory runs out.
 fn push_w3c(kinds: &mut Vec<Kind>) -> Result<(), AllocError>
     ensures { OnOk result (kinds.new.items ≡ kinds.old.items ++ w3c_kinds) }
 {
     kinds.push(Kind::Double)?;
-    kinds.push(Kind::Time(TimeFormat::Seconds))?;
-    kinds.push(Kind::Time(TimeFormat::Minutes))?;
+    kinds.push(Kind::Time(ClockFormat::Any))?;
+    kinds.push(Kind::Time(ClockFormat::Whole(TimeFormat::Minutes)))?;
     kinds.push(Kind::MomentWithZone)?;
-    push_spaced(kinds, TimeFormat::Seconds, &DATE_FORMATS)?;
-    push_spaced(kinds, TimeFormat::Minutes, &DATE_FORMATS)
+    push_moments(kinds)
 }
 
 /// Returns the datatypes besides `string` that each document may use, from the narrowest on. Returns `AllocError` if memory runs
@@ -165,7 +215,7 @@ impl Kind {
             Kind::Grouped(grouping) if grouping.fraction == Fraction::None => "integer",
             Kind::Decimal | Kind::DecimalComma | Kind::Grouped(_) => "decimal",
             Kind::Day(_) => "date",
-            Kind::Moment(_) | Kind::MomentWithZone => "dateTime",
+            Kind::Moment(_) | Kind::MomentWithZone | Kind::Stamp(_) => "dateTime",
             Kind::Double => "double",
             Kind::Time(_) => "time",
         }
@@ -179,6 +229,7 @@ impl Kind {
             Kind::Double
             | Kind::Time(_)
             | Kind::MomentWithZone
+            | Kind::Stamp(_)
             | Kind::Moment(MomentFormat::Spaced(..)) => false,
             Kind::Truth
             | Kind::Whole
@@ -214,7 +265,8 @@ impl Kind {
             Kind::Day(format) => day_of(format, text).is_some(),
             Kind::Moment(format) => moment_of(format, text).is_some(),
             Kind::Double => double_of(alloc, text)?.is_some(),
-            Kind::Time(format) => time_text(alloc, format, text)?.is_some(),
+            Kind::Time(format) => clock_text(alloc, format, text)?.is_some(),
+            Kind::Stamp(format) => read_stamp(alloc, format, Zone::Optional, text)?.is_some(),
             Kind::MomentWithZone => read_date_time(alloc, Zone::Optional, text)?.is_some(),
             Kind::Text => true,
         })
@@ -241,7 +293,10 @@ impl Kind {
             Kind::Day(format) => day_of(format, text).map(Value::Day),
             Kind::Moment(format) => moment_of(format, text).map(Value::Moment),
             Kind::Double => double_of(alloc, text)?.map(Value::Text),
-            Kind::Time(format) => time_text(alloc, format, text)?.map(Value::Text),
+            Kind::Time(format) => clock_text(alloc, format, text)?.map(Value::Text),
+            Kind::Stamp(format) => {
+                read_stamp(alloc, format, Zone::Optional, text)?.map(date_time_as_value)
+            }
             Kind::MomentWithZone => {
                 read_date_time(alloc, Zone::Optional, text)?.map(date_time_as_value)
             }
