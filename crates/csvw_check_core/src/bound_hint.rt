@@ -1,6 +1,6 @@
 //! How a bound of a datatype is written, and which datatypes have none (Metadata Vocabulary for Tabular Data, section 5.11.2).
 
-use csvw_datatype::Simple;
+use csvw_datatype::{DatePart, DurationKind, Simple, TextType, Zone};
 use csvw_meta::MetaCode;
 use serde_json::Value;
 use std::alloc::{AllocError, Global};
@@ -28,7 +28,37 @@ const DAY: &str = "    a bound is a date as yyyy-MM-dd, whatever the format is\n
 
 /// Bounds of moments.
 const MOMENT: &str =
-    "    a bound is a moment as yyyy-MM-ddTHH:mm:ss, without a zone, whatever the format is\n";
+    "    a bound is a moment as \"2020-01-31T08:30:00\", whatever the format is; with `--profile w3c` also as \"2020-01-31T08:30:00.5Z\"\n";
+
+/// Bounds of moments with a zone.
+const STAMP: &str = "    a bound is a moment with a zone, as \"2020-01-31T08:30:00Z\"\n";
+
+/// Bounds of times of day.
+const TIME: &str = "    a bound is a time of day as \"08:30:00\", whatever the format is\n";
+
+/// Bounds of years.
+const YEAR: &str = "    a bound is a year in quotes, as \"2015\"\n";
+
+/// Bounds of months of a year.
+const YEAR_MONTH: &str = "    a bound is a year and a month, as \"2015-03\"\n";
+
+/// Bounds of months of any year.
+const MONTH: &str = "    a bound is a month, as \"--03\"\n";
+
+/// Bounds of days of any year.
+const MONTH_DAY: &str = "    a bound is a month and a day, as \"--03-22\"\n";
+
+/// Bounds of days of any month.
+const DAY_OF_MONTH: &str = "    a bound is a day of a month, as \"---22\"\n";
+
+/// Bounds of durations.
+const DURATION: &str = "    a bound is a duration, as \"P1Y2M\" or \"PT36H\"\n";
+
+/// Bounds of durations of months.
+const MONTHS: &str = "    a bound is a duration of years and months, as \"P1Y2M\"\n";
+
+/// Bounds of durations of seconds.
+const SECONDS: &str = "    a bound is a duration without years and months, as \"PT36H\"\n";
 
 /// Numbers of JSON with a fraction.
 const FRACTION: &str = "    a number that isn't whole is written as a text, as \"0.5\"\n";
@@ -36,9 +66,6 @@ const FRACTION: &str = "    a number that isn't whole is written as a text, as \
 /// Bounds of doubles.
 const DOUBLE: &str =
     "    a bound is a number, perhaps with an exponent, or INF or -INF, as \"1.5e6\"\n";
-
-/// Bounds of other datatypes whose values have an order.
-const OTHER: &str = "    a bound of this datatype isn't supported: leave it out\n";
 
 /// Bounds of values without an order.
 const UNORDERED: &str = "    the values of this datatype have no order: leave the bound out\n";
@@ -61,24 +88,65 @@ fn simple_of(document: &Value, pointer: &str) -> Option<Simple> {
     }
 }
 
-/// Returns how a bound of a datatype is written.
-fn written(simple: Simple) -> Option<&'static str> {
-    match simple {
-        Simple::Whole | Simple::Derived(_) => Some(WHOLE),
-        Simple::Decimal => Some(DECIMAL),
-        Simple::Day => Some(DAY),
-        Simple::Moment => Some(MOMENT),
-        Simple::Floating(_) => Some(DOUBLE),
-        Simple::Text | Simple::Uri | Simple::Truth => Some(UNORDERED),
-        Simple::Other(_) => None,
+/// Returns how a bound of a type of parts of dates is written.
+fn part_written(part: DatePart) -> &'static str {
+    match part {
+        DatePart::Year => YEAR,
+        DatePart::YearMonth => YEAR_MONTH,
+        DatePart::Month => MONTH,
+        DatePart::MonthDay => MONTH_DAY,
+        DatePart::Day => DAY_OF_MONTH,
     }
 }
 
-/// Returns what to write in place of a bound that isn't supported.
-fn instead_of(simple: Simple, bound: &Value) -> Option<&'static str> {
+/// Returns how a bound of a type of durations is written.
+fn duration_written(kind: DurationKind) -> &'static str {
+    match kind {
+        DurationKind::Any => DURATION,
+        DurationKind::YearMonth => MONTHS,
+        DurationKind::DayTime => SECONDS,
+    }
+}
+
+/// Returns how a bound of a type of texts is written.
+fn text_written(text_type: TextType) -> &'static str {
+    match text_type {
+        TextType::Time => TIME,
+        TextType::DateTime(Zone::Optional) => MOMENT,
+        TextType::DateTime(Zone::Required) => STAMP,
+        TextType::Part(part) => part_written(part),
+        TextType::Duration(kind) => duration_written(kind),
+        _ => UNORDERED,
+    }
+}
+
+/// Returns how a bound of a datatype is written.
+fn written(simple: Simple) -> &'static str {
     match simple {
-        Simple::Other(_) => Some(OTHER),
-        _ if bound.is_number() => Some(FRACTION),
+        Simple::Whole | Simple::Derived(_) => WHOLE,
+        Simple::Decimal => DECIMAL,
+        Simple::Day => DAY,
+        Simple::Moment => MOMENT,
+        Simple::Floating(_) => DOUBLE,
+        Simple::Text | Simple::Uri | Simple::Truth => UNORDERED,
+        Simple::Other(text_type) => text_written(text_type),
+    }
+}
+
+/// Whether a bound of a datatype is a text, and no number of JSON.
+fn is_dated(simple: Simple) -> bool {
+    match simple {
+        Simple::Day | Simple::Moment => true,
+        Simple::Other(text_type) => text_type.is_ordered(),
+        _ => false,
+    }
+}
+
+/// Returns what to write in place of a number of JSON that is refused as a bound.
+fn number_hint(simple: Simple, code: MetaCode) -> Option<&'static str> {
+    match code {
+        _ if is_dated(simple) => Some(written(simple)),
+        MetaCode::NotSupported => Some(FRACTION),
         _ => None,
     }
 }
@@ -90,13 +158,13 @@ fn text_hint(
     text: &str,
 ) -> Result<Option<&'static str>, AllocError> {
     Ok(match simple.bound(alloc, text)? {
-        None => written(simple),
+        None => Some(written(simple)),
         Some(_) => None,
     })
 }
 
-/// Returns what helps with the fault at a pointer, if it is that of a bound which isn't supported, or is no value of its datatype.
-/// Returns `AllocError` if memory runs out.
+/// Returns what helps with the fault at a pointer, if it is that of a bound which is no value of its datatype, or a number in place
+/// of a text. Returns `AllocError` if memory runs out.
 pub(crate) fn bound_hint(
     alloc: Global,
     document: &Value,
@@ -108,8 +176,8 @@ pub(crate) fn bound_hint(
         return Ok(None);
     };
     match bound.as_str() {
-        _ if code == MetaCode::NotSupported => Ok(instead_of(simple, bound)),
         Some(text) => text_hint(alloc, simple, text),
+        None if bound.is_number() => Ok(number_hint(simple, code)),
         None => Ok(None),
     }
 }

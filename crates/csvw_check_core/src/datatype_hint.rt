@@ -100,6 +100,22 @@ fn name_at<'a>(document: &'a Value, code: MetaCode, pointer: &str) -> Option<&'a
     }
 }
 
+/// Adds what to write in place of a bound that is refused, if the fault is at one.
+pub(crate) fn push_bound_hint(
+    hints: &mut String,
+    alloc: Global,
+    bytes: &[u8],
+    fault: &MetaFault,
+) -> Result<(), AllocError> {
+    let Ok(document) = Value::from_slice(alloc, bytes) else {
+        return Ok(());
+    };
+    match bound_hint(alloc, &document, fault.code, fault.pointer.as_str())? {
+        Some(hint) => hints.push_str(hint),
+        None => Ok(()),
+    }
+}
+
 /// Adds what to write in place of a datatype, a format or a bound that is refused, if the fault is at one.
 pub(crate) fn push_datatype_hint(
     hints: &mut String,
@@ -114,11 +130,8 @@ pub(crate) fn push_datatype_hint(
     if let Some(name) = name_at(&document, fault.code, pointer) {
         return push_instead(hints, name);
     }
-    if let Some(hint) = format_hint(&document, fault.code, pointer) {
-        return hints.push_str(hint);
-    }
-    match bound_hint(alloc, &document, fault.code, pointer)? {
+    match format_hint(&document, fault.code, pointer) {
         Some(hint) => hints.push_str(hint),
-        None => Ok(()),
+        None => push_bound_hint(hints, alloc, bytes, fault),
     }
 }

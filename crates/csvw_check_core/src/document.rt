@@ -2,7 +2,7 @@
 ghost use Rattle.std.specs.Prelude.{IfOk};
 ghost use Rattle.csvw_columns.specs.Ready.{AreReady};
 
-use crate::datatype_hint::push_datatype_hint;
+use crate::datatype_hint::{push_bound_hint, push_datatype_hint};
 use crate::expected::{JsonEnd, push_expected};
 use crate::missing::push_missing;
 use crate::refused::{Refused, tell_all};
@@ -110,6 +110,20 @@ fn push_relative(hints: &mut String, alloc: Global, base: &str) -> Result<(), Al
     hints.push_str(" isn't absolute: write `--base http://example.org/metadata.json`\n")
 }
 
+/// Adds what helps with a property whose value isn't permitted: what an object needs, or how a bound is written.
+fn push_property_hints(
+    hints: &mut String,
+    alloc: Global,
+    bytes: &[u8],
+    fault: &MetaFault,
+) -> Result<(), AllocError> {
+    push_missing(hints, alloc, bytes, fault.pointer.as_str())?;
+    if hints.is_empty() {
+        push_bound_hint(hints, alloc, bytes, fault)?;
+    }
+    Ok(())
+}
+
 /// Adds what else helps with a fault of a document.
 fn push_document_hints(
     hints: &mut String,
@@ -129,9 +143,7 @@ fn push_document_hints(
         MetaCode::NotSupported | MetaCode::BadDatatype => {
             push_datatype_hint(hints, alloc, without_bom(bytes), fault)
         }
-        MetaCode::BadProperty => {
-            push_missing(hints, alloc, without_bom(bytes), fault.pointer.as_str())
-        }
+        MetaCode::BadProperty => push_property_hints(hints, alloc, without_bom(bytes), fault),
         MetaCode::BadUrl if fault.pointer.is_empty() => push_relative(hints, alloc, group.base),
         MetaCode::Memory => hints.push_str(EXPRESSION_TOO_LARGE),
         _ => Ok(()),

@@ -1,7 +1,7 @@
 //! What to write in place of a format that is refused (Model for Tabular Data and Metadata on the Web, sections 6.4.2, 6.4.4
 //! and 6.4.6).
 
-use csvw_datatype::{Simple, TextType};
+use csvw_datatype::{Simple, TextType, Zone};
 use csvw_meta::MetaCode;
 use serde_json::Value;
 
@@ -29,10 +29,16 @@ const DATE_PATTERNS: &str =
 /// The patterns of moments.
 const MOMENT_PATTERNS: &str =
     "    the format of a dateTime is yyyy-MM-ddTHH:mm:ss or yyyy-MM-ddTHH:mm; with `--profile w3c` also a date, a space and a time, \
-     as dd/MM/yyyy HH:mm\n";
+     as dd/MM/yyyy HH:mm, and then .SSS for a fraction after HH:mm:ss, and X for a zone\n";
+
+/// The patterns of moments that have a zone.
+const STAMP_PATTERNS: &str =
+    "    the format of a dateTimeStamp is yyyy-MM-ddTHH:mm:ss, yyyy-MM-ddTHH:mm, or a date, a space and a time, as dd/MM/yyyy HH:mm, \
+     then .SSS for a fraction after HH:mm:ss, and X at the end for the zone, which is needed\n";
 
 /// The patterns of times of day.
-const TIME_PATTERNS: &str = "    the format of a time is HH:mm:ss, HHmmss, HH:mm or HHmm\n";
+const TIME_PATTERNS: &str =
+    "    the format of a time is HH:mm:ss, HHmmss, HH:mm or HHmm, and .SSS for a fraction after HH:mm:ss\n";
 
 /// What a format describes.
 #[derive(Clone, Copy)]
@@ -45,6 +51,8 @@ enum Described {
     Dates,
     /// Moments, by a pattern.
     Moments,
+    /// Moments that have a zone, by a pattern.
+    Stamps,
     /// Times of day, by a pattern.
     Times,
 }
@@ -60,7 +68,10 @@ fn described_by(datatype: &Value) -> Option<Described> {
             Some(Described::Numbers)
         }
         Simple::Day => Some(Described::Dates),
-        Simple::Moment => Some(Described::Moments),
+        Simple::Other(TextType::DateTime(Zone::Required)) => Some(Described::Stamps),
+        Simple::Moment | Simple::Other(TextType::DateTime(Zone::Optional)) => {
+            Some(Described::Moments)
+        }
         Simple::Other(TextType::Time) => Some(Described::Times),
         simple if simple.takes_expression() => Some(Described::Texts),
         _ => None,
@@ -90,6 +101,7 @@ fn hint_of(described: Described, code: MetaCode) -> &'static str {
         (Described::Texts, _) => EXPRESSION_WRITTEN,
         (Described::Dates, _) => DATE_PATTERNS,
         (Described::Moments, _) => MOMENT_PATTERNS,
+        (Described::Stamps, _) => STAMP_PATTERNS,
         (Described::Times, _) => TIME_PATTERNS,
     }
 }

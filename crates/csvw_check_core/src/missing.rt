@@ -22,6 +22,20 @@ fn has(alloc: Global, document: &Value, pointer: &str, name: &str) -> Result<boo
     Ok(document.pointer(member.as_str()).is_some())
 }
 
+/// Whether the object at a pointer has a property that takes the place of this one. A `schemaReference` takes that of a
+/// `resource`. In the profile `core` it has a fault of its own.
+fn is_replaced(
+    alloc: Global,
+    document: &Value,
+    pointer: &str,
+    name: &str,
+) -> Result<bool, AllocError> {
+    match name {
+        "resource" => has(alloc, document, pointer, "schemaReference"),
+        _ => Ok(false),
+    }
+}
+
 /// Adds the properties that the object at a pointer needs and doesn't have. A document with `tables` needs none.
 pub(crate) fn push_missing(
     hints: &mut String,
@@ -40,7 +54,9 @@ pub(crate) fn push_missing(
         return Ok(());
     }
     for name in needed(pointer) {
-        if !has(alloc, &document, pointer, name)? {
+        let is_there = has(alloc, &document, pointer, name)?
+            || is_replaced(alloc, &document, pointer, name)?;
+        if !is_there {
             write!(hints, "    the property \"{name}\" is missing\n")?;
         }
     }

@@ -1,18 +1,11 @@
 //! The formats by which a text is a date or a moment, if it is none in its column's format.
 
+use crate::endings::{TIMES, fraction_split, zone_split};
 use csvw_datatype_core::{
-    DATE_FORMATS, DateFormat, MomentFormat, TimeFormat, Zone, read_date, read_date_time,
-    read_moment,
+    DATE_FORMATS, DateFormat, MomentFormat, StampFormat, TimeFormat, Zone, read_date,
+    read_date_time, read_moment, read_stamp,
 };
 use std::alloc::{AllocError, Global};
-
-/// The formats of times of day.
-const TIMES: [TimeFormat; 4] = [
-    TimeFormat::Seconds,
-    TimeFormat::CompactSeconds,
-    TimeFormat::Minutes,
-    TimeFormat::CompactMinutes,
-];
 
 /// Returns the same format with the month first, if a format has the day first.
 fn month_first(format: DateFormat) -> Option<DateFormat> {
@@ -83,43 +76,104 @@ fn joined_format(text: &str) -> Option<MomentFormat> {
     }
 }
 
+/// Returns the format by which a text is a moment, if it is one.
+fn moment_format(text: &str) -> Option<MomentFormat> {
+    match joined_format(text) {
+        Some(format) => Some(format),
+        None => any_spaced_format(text),
+    }
+}
+
+/// Returns the format by which a text may be a moment, by the fraction and the zone at its end. Whether the zone is one isn't
+/// looked at.
+fn stamp_format(text: &str) -> Option<StampFormat> {
+    let (front, zone) = zone_split(text);
+    let (front, digits) = fraction_split(front);
+    let format = StampFormat {
+        moment: moment_format(front)?,
+        digits,
+        zone,
+    };
+    if format.is_stamp() {
+        Some(format)
+    } else {
+        None
+    }
+}
+
+/// Returns whether a text is a moment in a format.
+fn is_stamp(alloc: Global, text: &str, format: StampFormat) -> Result<bool, AllocError> {
+    Ok(read_stamp(alloc, format, Zone::Optional, text)?.is_some())
+}
+
+/// Returns the same format with the month first, if a format has the day first and a space.
+fn stamp_month_first(format: StampFormat) -> Option<StampFormat> {
+    match format.moment {
+        MomentFormat::Spaced(date, time) => Some(StampFormat {
+            moment: MomentFormat::Spaced(month_first(date)?, time),
+            digits: format.digits,
+            zone: format.zone,
+        }),
+        MomentFormat::Seconds | MomentFormat::Minutes => None,
+    }
+}
+
 /// Adds a format of moments.
-fn push_pattern(below: &mut String, format: MomentFormat) -> Result<(), AllocError> {
+fn push_pattern(below: &mut String, format: StampFormat) -> Result<(), AllocError> {
     below.push_str("`\"format\": \"")?;
     format.push_pattern(below)?;
     below.push_str("\"`")
 }
 
-/// Adds the formats with a space by which a text is a moment, of which this is the first.
-fn push_spaced(below: &mut String, text: &str, format: MomentFormat) -> Result<(), AllocError> {
+/// Adds the formats of the profile w3c by which a text is a moment, of which this is the first.
+fn push_stamps(
+    below: &mut String,
+    alloc: Global,
+    text: &str,
+    format: StampFormat,
+) -> Result<(), AllocError> {
     below.push_str("    the text is a dateTime with `--profile w3c` and ")?;
     push_pattern(below, format)?;
-    if let MomentFormat::Spaced(date, time) = format {
-        if let Some(other) = month_first(date) {
-            let other = MomentFormat::Spaced(other, time);
-            if read_moment(other, text).is_some() {
-                below.push_str(", or with ")?;
-                push_pattern(below, other)?;
-            }
+    if let Some(other) = stamp_month_first(format) {
+        if is_stamp(alloc, text, other)? {
+            below.push_str(", or with ")?;
+            push_pattern(below, other)?;
         }
     }
+    below.push('\n')
+}
+
+/// Adds the formats of the profile w3c by which a text is a moment, if it is one.
+fn push_stamp(below: &mut String, alloc: Global, text: &str) -> Result<(), AllocError> {
+    match stamp_format(text) {
+        Some(format) if is_stamp(alloc, text, format)? => push_stamps(below, alloc, text, format),
+        _ => Ok(()),
+    }
+}
+
+/// Adds a format of both profiles by which a text is a moment.
+fn push_joined(below: &mut String, format: MomentFormat) -> Result<(), AllocError> {
+    below.push_str("    the text is a dateTime with ")?;
+    push_pattern(
+        below,
+        StampFormat {
+            moment: format,
+            digits: 0,
+            zone: None,
+        },
+    )?;
     below.push('\n')
 }
 
 /// Adds the formats by which a text is a moment, or how one with a zone is read.
 pub(crate) fn push_moment(below: &mut String, alloc: Global, text: &str) -> Result<(), AllocError> {
     if let Some(format) = joined_format(text) {
-        below.push_str("    the text is a dateTime with ")?;
-        push_pattern(below, format)?;
-        return below.push('\n');
-    }
-    if let Some(format) = any_spaced_format(text) {
-        return push_spaced(below, text, format);
+        return push_joined(below, format);
     }
     match read_date_time(alloc, Zone::Optional, text)? {
         Some(_) => below.push_str(
-            "    the text is a dateTime with `--profile w3c`, if the datatype has no `format` and no bound\n",
+            "    the text is a dateTime with `--profile w3c`, if the datatype has no `format`\n",
         ),
-        None => Ok(()),
+        None => push_stamp(below, alloc, text),
     }
 }

@@ -2,8 +2,9 @@
 
 use crate::other_date::{push_date, push_moment};
 use crate::other_number::{push_decimal, push_double, push_integer};
+use crate::other_time::push_time;
 use crate::tables::{TableAt, declared};
-use csvw_datatype::Simple;
+use csvw_datatype::{Simple, TextType, Zone};
 use csvw_text::{Code, Fault, collapse};
 use std::alloc::AllocError;
 
@@ -45,6 +46,7 @@ fn is_of_text(code: Code) -> bool {
             | Code::BadDouble
             | Code::BadDate
             | Code::BadDateTime
+            | Code::BadTime
     )
 }
 
@@ -72,7 +74,11 @@ pub fn push_other_format(
         Simple::Decimal => push_decimal(below, alloc, text),
         Simple::Floating(_) => push_double(below, alloc, text),
         Simple::Day => push_date(below, text),
-        Simple::Moment => push_moment(below, alloc, text),
+        // these lines say `dateTime`, and most of their formats have no zone, which a `dateTimeStamp` needs
+        Simple::Moment | Simple::Other(TextType::DateTime(Zone::Optional)) => {
+            push_moment(below, alloc, text)
+        }
+        Simple::Other(TextType::Time) => push_time(below, text),
         Simple::Text | Simple::Uri | Simple::Other(_) => Ok(()),
     }
 }

@@ -54,7 +54,11 @@ fn push_format(text: &mut String, format: &Format) -> Result<(), AllocError> {
         }
         Format::Time(format) => {
             text.push_str(", format ")?;
-            text.push_str(format.pattern())
+            format.push_pattern(text)
+        }
+        Format::Stamp(format) => {
+            text.push_str(", format ")?;
+            format.push_pattern(text)
         }
         Format::Expression(expression) => {
             text.push_str(", ")?;
@@ -63,7 +67,7 @@ fn push_format(text: &mut String, format: &Format) -> Result<(), AllocError> {
     }
 }
 
-/// Adds how a type of moments that may have zones is written.
+/// Adds how a type of moments that may have zones is written without a format.
 fn push_zone(text: &mut String, zone: Zone) -> Result<(), AllocError> {
     let zone = match zone {
         Zone::Optional => ": with or without a zone",
@@ -90,7 +94,9 @@ fn push_datatype(text: &mut String, datatype: &Datatype) -> Result<(), AllocErro
         push_format(text, format)?;
     }
     match datatype.simple {
-        Simple::Other(TextType::DateTime(zone)) => push_zone(text, zone)?,
+        Simple::Other(TextType::DateTime(zone)) if datatype.format.is_none() => {
+            push_zone(text, zone)?
+        }
         Simple::Other(TextType::Duration(kind)) => push_duration(text, kind)?,
         _ => {}
     }

@@ -2,7 +2,7 @@
 
 use crate::file_rows::{FileRows, LineCount, Piece};
 use crate::first_rows::{FirstRows, Repeat};
-use csvw_hints::{TableAt, field_of, name_of, push_other_format, push_rule};
+use csvw_hints::{TableAt, field_of, name_of, push_no_order, push_other_format, push_rule};
 use csvw_opener::{Opener, STANDARD_INPUT};
 use csvw_page::{CellShown, Color, Counts, FaultShown, Form, Halt, Page, Spot, spot_of};
 use csvw_rows::{RawRow, Rows};
@@ -171,6 +171,7 @@ impl Walker {
         if let Some(cell) = &cell {
             self.tell_rule(table, fault)?;
             push_other_format(&mut self.below, table, fault, cell.text)?;
+            push_no_order(&mut self.below, table, fault, cell.text)?;
         } else {
             self.tell_unseen(table, fault)?;
         }
