@@ -144,7 +144,7 @@ static HELPED: [Refusal; 17] = [
     },
     Refusal {
         meta: b"{\"@context\":\"http://www.w3.org/ns/csvw\",\"url\":\"p.csv\",\"tableSchema\":{\"columns\":[{\"name\":\"a\",\"datatype\":{\"base\":\"dateTime\",\n\"format\":\"yyyy-MM-dd HH:mm\"}}]}}",
-        line: b"m.json:2:1: /tableSchema/columns/0/datatype/format: NotSupported: this part of the vocabulary is not supported: leave it out\n    the format of a dateTime is yyyy-MM-ddTHH:mm:ss or yyyy-MM-ddTHH:mm; with `--profile w3c` also a date, a space and a time, as dd/MM/yyyy HH:mm\n",
+        line: b"m.json:2:1: /tableSchema/columns/0/datatype/format: NotSupported: this part of the vocabulary is not supported: leave it out\n    the format of a dateTime is yyyy-MM-ddTHH:mm:ss or yyyy-MM-ddTHH:mm; with `--profile w3c` also a date, a space and a time, as dd/MM/yyyy HH:mm, and then .SSS for a fraction after HH:mm:ss, and X for a zone\n",
     },
     Refusal {
         meta: b"{\"@context\":\"http://www.w3.org/ns/csvw\",\"tableSchema\":{}}",
@@ -188,7 +188,7 @@ static HELPED: [Refusal; 17] = [
     },
     Refusal {
         meta: b"{\"@context\":\"http://www.w3.org/ns/csvw\",\"url\":\"p.csv\",\"tableSchema\":{\"columns\":[{\"name\":\"a\",\"datatype\":{\"base\":\"dateTime\",\n\"minExclusive\":\"2020-01-31T08:30:00Z\"}}]}}",
-        line: b"m.json:2:1: /tableSchema/columns/0/datatype/minExclusive: BadDatatype: the datatype cannot have this format or these facets\n    a bound is a moment as yyyy-MM-ddTHH:mm:ss, without a zone, whatever the format is\n",
+        line: b"m.json:2:1: /tableSchema/columns/0/datatype/minExclusive: BadDatatype: the datatype cannot have this format or these facets\n    a bound is a moment as \"2020-01-31T08:30:00\", whatever the format is; with `--profile w3c` also as \"2020-01-31T08:30:00.5Z\"\n",
     },
     Refusal {
         meta: b"{\"@context\":\"http://www.w3.org/ns/csvw\",\"url\":\"p.csv\",\"tableSchema\":{\"columns\":[{\"name\":\"a\",\"datatype\":{\n\"maxExclusive\":\"b\"}}]}}",

@@ -62,9 +62,114 @@ static MOMENTS: [Case; 6] = [
     (
         r#""dateTime""#,
         "2020-01-31T08:30:00Z",
-        "    datatype dateTime\n    the text is a dateTime with `--profile w3c`, if the datatype has no `format` and no bound\n",
+        "    datatype dateTime\n    the text is a dateTime with `--profile w3c`, if the datatype has no `format`\n",
     ),
     (r#""dateTime""#, "31.01.2020", "    datatype dateTime\n"),
+];
+
+static STAMPS: [Case; 12] = [
+    (
+        r#""dateTime""#,
+        "2020-01-31 08:30:00.123",
+        "    datatype dateTime\n    the text is a dateTime with `--profile w3c` and `\"format\": \"yyyy-MM-dd HH:mm:ss.SSS\"`\n",
+    ),
+    (
+        r#""dateTime""#,
+        "2020-01-31 08:30:00+00",
+        "    datatype dateTime\n    the text is a dateTime with `--profile w3c` and `\"format\": \"yyyy-MM-dd HH:mm:ssX\"`\n",
+    ),
+    (
+        r#""dateTime""#,
+        "31/01/2020 08:30 +0100",
+        "    datatype dateTime\n    the text is a dateTime with `--profile w3c` and `\"format\": \"dd/MM/yyyy HH:mm XX\"`\n",
+    ),
+    (
+        r#""dateTime""#,
+        "1.2.2020 08:30:00.5 -0530",
+        "    datatype dateTime\n    the text is a dateTime with `--profile w3c` and `\"format\": \"d.M.yyyy HH:mm:ss.S XX\"`, or with `\"format\": \"M.d.yyyy HH:mm:ss.S XX\"`\n",
+    ),
+    (
+        r#""dateTime""#,
+        "20200131 0830Z",
+        "    datatype dateTime\n    the text is a dateTime with `--profile w3c` and `\"format\": \"yyyyMMdd HHmmX\"`\n",
+    ),
+    (
+        r#""dateTime""#,
+        "2020-01-31T08:30:00+0000",
+        "    datatype dateTime\n    the text is a dateTime with `--profile w3c` and `\"format\": \"yyyy-MM-ddTHH:mm:ssXX\"`\n",
+    ),
+    (
+        r#""dateTime""#,
+        "2020-01-31T08:30:00.25+00",
+        "    datatype dateTime\n    the text is a dateTime with `--profile w3c` and `\"format\": \"yyyy-MM-ddTHH:mm:ss.SSX\"`\n",
+    ),
+    (
+        r#""dateTime""#,
+        "2020-01-31T08:30Z",
+        "    datatype dateTime\n    the text is a dateTime with `--profile w3c` and `\"format\": \"yyyy-MM-ddTHH:mmX\"`\n",
+    ),
+    (
+        r#""dateTime""#,
+        "2020-01-31T08:30:00.123",
+        "    datatype dateTime\n    the text is a dateTime with `--profile w3c`, if the datatype has no `format`\n",
+    ),
+    (
+        r#""dateTime""#,
+        "2020-01-31 08:30.5",
+        "    datatype dateTime\n",
+    ),
+    (
+        r#""dateTime""#,
+        "2020-01-31 08:30:00.",
+        "    datatype dateTime\n",
+    ),
+    (
+        r#""dateTime""#,
+        "2020-01-31 08:30:00+15",
+        "    datatype dateTime\n",
+    ),
+];
+
+/// Times of day, which the profile w3c alone has.
+static TIMES: [Case; 10] = [
+    (
+        r#""time""#,
+        "08:30",
+        "    datatype time\n    the text is a time with `\"format\": \"HH:mm\"`\n",
+    ),
+    (
+        r#""time""#,
+        "0830",
+        "    datatype time\n    the text is a time with `\"format\": \"HHmm\"`\n",
+    ),
+    (
+        r#""time""#,
+        "083000",
+        "    datatype time\n    the text is a time with `\"format\": \"HHmmss\"`\n",
+    ),
+    (
+        r#"{"base":"time","format":"HH:mm"}"#,
+        "08:30:00",
+        "    datatype time, format HH:mm\n    the text is a time with `\"format\": \"HH:mm:ss\"`\n",
+    ),
+    (
+        r#"{"base":"time","format":"HH:mm:ss.S"}"#,
+        "08:30:00.123",
+        "    datatype time, format HH:mm:ss.S\n    the text is a time with `\"format\": \"HH:mm:ss.SSS\"`\n",
+    ),
+    (
+        r#""time""#,
+        "08:30:00Z",
+        "    datatype time\n    a time has no zone: leave it out\n",
+    ),
+    (
+        r#""time""#,
+        "08:30:00.5 +01:00",
+        "    datatype time\n    a time has no zone: leave it out\n",
+    ),
+    (r#""time""#, "08:30:00.", "    datatype time\n"),
+    (r#""time""#, "24:00", "    datatype time\n"),
+    (r#""time""#, "8:30", "    datatype time\n"),
 ];
 
 static NUMBERS: [Case; 17] = [
@@ -156,8 +261,11 @@ static TRUTHS: [Case; 3] = [
 /// The words that check a table.
 const CHECK: &[&str] = &["csvw", "check", "m.json", "p.csv"];
 
+/// The words that check a table with the profile w3c.
+const CHECK_W3C: &[&str] = &["csvw", "check", "--profile", "w3c", "m.json", "p.csv"];
+
 /// Returns the page of a check of a field in a column of a datatype, or `None` if memory runs out, or the page is no text.
-fn page_of(alloc: Global, datatype: &str, field: &str) -> Option<String> {
+fn page_of(alloc: Global, words: &[&str], datatype: &str, field: &str) -> Option<String> {
     let meta = format!(in alloc;
         "{{\"@context\":\"http://www.w3.org/ns/csvw\",\"url\":\"p.csv\",\"tableSchema\":{{\"columns\":[{{\"name\":\"a\",\"datatype\":{datatype}}}]}}}}"
     ).ok()?;
@@ -174,14 +282,14 @@ fn page_of(alloc: Global, datatype: &str, field: &str) -> Option<String> {
     ];
     let mut out = Counted::new(Vec::new(alloc));
     let mut err = Counted::new(Vec::new(alloc));
-    status_of(alloc, CHECK, &files, &mut out, &mut err)?;
+    status_of(alloc, words, &files, &mut out, &mut err)?;
     let page = out.into_inner();
     String::from_str(alloc, str::from_utf8(page.as_slice()).ok()?).ok()
 }
 
 /// Returns whether a page has these lines below the field, and no others.
-fn has_below(alloc: Global, case: &Case) -> bool {
-    let Some(page) = page_of(alloc, case.0, case.1) else {
+fn has_below(alloc: Global, words: &[&str], case: &Case) -> bool {
+    let Some(page) = page_of(alloc, words, case.0, case.1) else {
         return false;
     };
     match format!(in alloc; "^\n{}table 1: p.csv: 2 records\n", case.2) {
@@ -194,10 +302,28 @@ fn has_below(alloc: Global, case: &Case) -> bool {
 fn texts_have_their_other_formats(rt: HostRuntime) -> Result<(), Fail> {
     let alloc = rt.alloc();
     for case in DATES.iter().chain(&MOMENTS) {
-        assert!(rt; has_below(alloc, case), "{} {}", case.0, case.1);
+        assert!(rt; has_below(alloc, CHECK, case), "{} {}", case.0, case.1);
     }
     for case in NUMBERS.iter().chain(&TRUTHS) {
-        assert!(rt; has_below(alloc, case), "{} {}", case.0, case.1);
+        assert!(rt; has_below(alloc, CHECK, case), "{} {}", case.0, case.1);
+    }
+    Ok(())
+}
+
+#[test]
+fn moments_have_the_formats_of_the_profile_w3c(rt: HostRuntime) -> Result<(), Fail> {
+    let alloc = rt.alloc();
+    for case in &STAMPS {
+        assert!(rt; has_below(alloc, CHECK, case), "{} {}", case.0, case.1);
+    }
+    Ok(())
+}
+
+#[test]
+fn times_have_their_other_formats(rt: HostRuntime) -> Result<(), Fail> {
+    let alloc = rt.alloc();
+    for case in &TIMES {
+        assert!(rt; has_below(alloc, CHECK_W3C, case), "{} {}", case.0, case.1);
     }
     Ok(())
 }

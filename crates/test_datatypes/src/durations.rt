@@ -160,8 +160,8 @@ static OF_W3C: [Literal; 7] = [
 /// Datatypes that the profile w3c refuses.
 static REFUSED: [Refused; 5] = [
     Refused {
-        datatype: r#"{"base":"duration","minimum":"P1D"}"#,
-        code: MetaCode::NotSupported,
+        datatype: r#"{"base":"duration","minimum":"1D"}"#,
+        code: MetaCode::BadDatatype,
         pointer: "/minimum",
     },
     Refused {

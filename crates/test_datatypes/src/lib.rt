@@ -29,6 +29,8 @@ mod moments;
 #[cfg(test)]
 mod nulls;
 #[cfg(test)]
+mod part_bounds;
+#[cfg(test)]
 mod profiles;
 #[cfg(test)]
 mod ranges;
@@ -39,6 +41,12 @@ mod roles;
 #[cfg(test)]
 mod row_titles;
 #[cfg(test)]
+mod schema_references;
+#[cfg(test)]
 mod spaced_moments;
+#[cfg(test)]
+mod stamps;
+#[cfg(test)]
+mod temporal_bounds;
 #[cfg(test)]
 mod tree_ops;

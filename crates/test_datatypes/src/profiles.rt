@@ -314,12 +314,12 @@ static REFUSED: [Refused; 18] = [
     },
     Refused {
         datatype: r#"{"base":"gYear","minimum":2000}"#,
-        code: MetaCode::NotSupported,
+        code: MetaCode::BadProperty,
         pointer: "/minimum",
     },
     Refused {
-        datatype: r#"{"base":"time","maxExclusive":"12:00:00"}"#,
-        code: MetaCode::NotSupported,
+        datatype: r#"{"base":"time","maxExclusive":"24:00:00"}"#,
+        code: MetaCode::BadDatatype,
         pointer: "/maxExclusive",
     },
     Refused {
@@ -371,13 +371,36 @@ fn stops_at(alloc: Global, ran: &Ran, code: MetaCode, below: &str) -> Result<boo
     })
 }
 
-/// Whether a document with this datatype is refused in the profile w3c, with that fault.
-pub(crate) fn is_refused(alloc: Global, case: &Refused) -> Result<bool, AllocError> {
+/// Whether a document with this datatype is refused in a profile, with that fault.
+pub(crate) fn is_refused_in(
+    alloc: Global,
+    profile: Profile,
+    case: &Refused,
+) -> Result<bool, AllocError> {
     let datatype = case.datatype;
     let column = format!(in alloc; "\"datatype\":{datatype}")?;
     let meta = document_of(alloc, column.as_str())?;
-    let ran = run_in_profile(alloc, Profile::W3c, meta.as_str(), "")?;
+    let ran = run_in_profile(alloc, profile, meta.as_str(), "")?;
     stops_at(alloc, &ran, case.code, case.pointer)
+}
+
+/// Whether a document with this datatype is refused in the profile w3c, with that fault.
+pub(crate) fn is_refused(alloc: Global, case: &Refused) -> Result<bool, AllocError> {
+    is_refused_in(alloc, Profile::W3c, case)
+}
+
+/// Returns the report of a run over one row of a column with a datatype.
+pub(crate) fn report_in(
+    alloc: Global,
+    profile: Profile,
+    datatype: &str,
+    field: &str,
+) -> Result<Vec<u8>, AllocError> {
+    let column = format!(in alloc; "\"datatype\":{datatype}")?;
+    let meta = document_of(alloc, column.as_str())?;
+    let text = format!(in alloc; "id\n{field}\n")?;
+    let ran = run_in_profile(alloc, profile, meta.as_str(), text.as_str())?;
+    Ok(ran.report)
 }
 
 /// Whether a run in the profile core refuses the document of a case, at a pointer below its datatype.

@@ -117,7 +117,7 @@ static BOUNDED: [Described; 6] = [
 ];
 
 /// A datatype, and the code and the pointer of the fault of its document in the profile w3c.
-static REFUSED: [(&str, MetaCode, &str); 10] = [
+static REFUSED: [(&str, MetaCode, &str); 7] = [
     (
         r#"{"base":"dateTime","format":"yyyy-MM-dd  HH:mm"}"#,
         MetaCode::NotSupported,
@@ -140,21 +140,6 @@ static REFUSED: [(&str, MetaCode, &str); 10] = [
     ),
     (
         r#"{"base":"dateTime","format":"HH:mm dd/MM/yyyy"}"#,
-        MetaCode::NotSupported,
-        "/format",
-    ),
-    (
-        r#"{"base":"dateTime","format":"yyyy-MM-dd HH:mm:ss.SSS"}"#,
-        MetaCode::NotSupported,
-        "/format",
-    ),
-    (
-        r#"{"base":"dateTime","format":"yyyy-MM-dd HH:mmX"}"#,
-        MetaCode::NotSupported,
-        "/format",
-    ),
-    (
-        r#"{"base":"dateTimeStamp","format":"yyyy-MM-dd HH:mm:ss"}"#,
         MetaCode::NotSupported,
         "/format",
     ),

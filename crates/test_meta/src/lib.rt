@@ -24,6 +24,8 @@ mod reading;
 #[cfg(test)]
 mod row_titles;
 #[cfg(test)]
+mod schema_references;
+#[cfg(test)]
 mod schemas;
 #[cfg(test)]
 mod tables;

@@ -58,6 +58,19 @@ const ROW_TITLES: &str =
 {W,"url":"a","tableSchema":{"rowTitles":["x",1,"p"],"foreignKeys":[{"columnReference":"r","reference":{"resource":"a","columnReference":"x"}}],"primaryKey":["q",2],"columns":[{"name":"x"}]}} => BadProperty /tableSchema/primaryKey/1; BadProperty /tableSchema/rowTitles/1; BadReference /tableSchema/primaryKey/0; BadReference /tableSchema/rowTitles/2; BadReference /tableSchema/foreignKeys/0/columnReference
 "#;
 
+/// Documents whose foreign keys name tables by schemas.
+const SCHEMA_REFERENCES: &str =
+    r#"{C,"url":"a","tableSchema":{"columns":[{"name":"x"}],"foreignKeys":[{"columnReference":"x","reference":{"schemaReference":"s"}}]}} => NotSupported /tableSchema/foreignKeys/0/reference/schemaReference; BadProperty /tableSchema/foreignKeys/0/reference; BadProperty /tableSchema/foreignKeys/0/reference
+{W,"url":"a","tableSchema":{"@id":"s","columns":[{"name":"x"}],"foreignKeys":[{"columnReference":"x","reference":{"schemaReference":"s","columnReference":"x"}}]}} => none
+{W,"url":"a","tableSchema":{"columns":[{"name":"x"}],"foreignKeys":[{"columnReference":"x","reference":{"schemaReference":1}},{"columnReference":"x","reference":{}}]}} => BadProperty /tableSchema/foreignKeys/0/reference/schemaReference; BadProperty /tableSchema/foreignKeys/0/reference; BadProperty /tableSchema/foreignKeys/1/reference; BadProperty /tableSchema/foreignKeys/1/reference
+{W,"tables":[{"url":"a","tableSchema":{"columns":[{"name":"x"}],"foreignKeys":[{"columnReference":["x","p"],"reference":{"schemaReference":"s","columnReference":["z","q"]}},{"columnReference":"p","reference":{"schemaReference":"t","columnReference":"q"}},{"columnReference":"x","reference":{"schemaReference":"t","resource":"b","columnReference":"q"}}]}},{"url":"b","tableSchema":{"@id":"s","columns":[{"name":"z"}]}}]} => BadProperty /tables/0/tableSchema/foreignKeys/2/reference/schemaReference; BadReference /tables/0/tableSchema/foreignKeys/0/columnReference/1; BadReference /tables/0/tableSchema/foreignKeys/0/reference/columnReference/1; BadReference /tables/0/tableSchema/foreignKeys/1/reference/schemaReference; BadReference /tables/0/tableSchema/foreignKeys/2/reference/columnReference
+{W,"tables":[{"url":"a","tableSchema":{"columns":[{"name":"x"}],"foreignKeys":[{"columnReference":"x","reference":{"schemaReference":"s","columnReference":"z"}}]}},{"url":"b"}],"tableSchema":{"@id":"s","columns":[{"name":"z"}]}} => none
+{W,"tables":[{"url":"a","tableSchema":{"columns":[{"name":"x"}],"foreignKeys":[{"columnReference":"x","reference":{"schemaReference":"s","columnReference":"z"}}]}},{"url":"b"},{"url":"c"}],"tableSchema":{"@id":"s","columns":[{"name":"z"}]}} => BadReference /tables/0/tableSchema/foreignKeys/0/reference/schemaReference
+{W,"tables":[{"url":"a","tableSchema":{"columns":[{"name":"x"}],"foreignKeys":[{"columnReference":"x","reference":{"schemaReference":"s","columnReference":"q"}},{"columnReference":"p","reference":{"schemaReference":"t","columnReference":"z"}}]}},{"url":"b","tableSchema":{"@id":1,"columns":[{"name":"z"}]}}]} => BadProperty /tables/1/tableSchema/@id
+{W,"tables":[{"url":"a","tableSchema":{"columns":[{"name":"x"}],"foreignKeys":[{"columnReference":"p","reference":{"schemaReference":"s","columnReference":"q"}},{"columnReference":"x","reference":{"schemaReference":"t","columnReference":"q"}}]}},{"url":"b","tableSchema":{"@id":"s","columns":[{"name":1}]}},{"url":"c","tableSchema":{"@id":"t","columns":[{"name":"z"}]}}]} => BadProperty /tables/1/tableSchema/columns/0/name; BadReference /tables/0/tableSchema/foreignKeys/0/columnReference; BadReference /tables/0/tableSchema/foreignKeys/1/reference/columnReference
+{W,"tables":[{"url":"a","tableSchema":{"columns":[{"name":"x"}],"foreignKeys":[{"columnReference":"x","reference":{"schemaReference":"s","columnReference":"q"}}]}},1]} => BadProperty /tables/1
+"#;
+
 #[test]
 fn whole(rt: HostRuntime) -> Result<(), Fail> {
     assert_eq!(rt; first_wrong(rt.alloc(), Kind::Document, WHOLE)?, None);
@@ -79,6 +92,15 @@ fn values(rt: HostRuntime) -> Result<(), Fail> {
 #[test]
 fn together(rt: HostRuntime) -> Result<(), Fail> {
     assert_eq!(rt; first_wrong(rt.alloc(), Kind::Document, TOGETHER)?, None);
+    Ok(())
+}
+
+#[test]
+fn schema_references(rt: HostRuntime) -> Result<(), Fail> {
+    assert_eq!(rt;
+        first_wrong(rt.alloc(), Kind::Document, SCHEMA_REFERENCES)?,
+        None
+    );
     Ok(())
 }
 

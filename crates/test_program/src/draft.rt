@@ -348,7 +348,7 @@ static DOCUMENTS: [Case; 19] = [
 ];
 
 /// Drafts in the profile w3c.
-static W3C_DOCUMENTS: [Case; 10] = [
+static W3C_DOCUMENTS: [Case; 11] = [
     one!(
         "types.csv",
         "n,d,t,c,m\n1,1e5,08:30,08:30:00,2020-01-31T08:30:00Z\n2,-INF,09:15,09:15:30,2020-01-31T09:00:00.5\n",
@@ -437,6 +437,18 @@ static W3C_DOCUMENTS: [Case; 10] = [
         r#"{"@context":"http://www.w3.org/ns/csvw","url":"minutes.csv","tableSchema":{"columns":[
             {"name":"m","titles":"m","datatype":{"base":"dateTime","format":"yyyy-MM-ddTHH:mm"},"required":true}],
             "primaryKey":"m"}}"#
+    ),
+    // moments as databases write them, and times with parts of a second; in the last two columns one text has another form
+    one!(
+        "databases.csv",
+        "p,q,t,a,b\n2020-01-31 08:30:00.123456+00,2020-01-31 08:30:00.5,08:30:00.25,2020-01-31 08:30:00+00,2020-01-31 08:30+00\n2020-02-05 23:59:00-0530,2020-02-05 23:59:00,23:59:59,2020-01-31T08:30:00Z,2020-01-31 08:31+00\n",
+        r#"{"@context":"http://www.w3.org/ns/csvw","url":"databases.csv","tableSchema":{"columns":[
+            {"name":"p","titles":"p","datatype":{"base":"dateTime","format":"yyyy-MM-dd HH:mm:ss.SSSSSSSSSX"},"required":true},
+            {"name":"q","titles":"q","datatype":{"base":"dateTime","format":"yyyy-MM-dd HH:mm:ss.SSSSSSSSS"},"required":true},
+            {"name":"t","titles":"t","datatype":"time","required":true},
+            {"name":"a","titles":"a","required":true},
+            {"name":"b","titles":"b","required":true}],
+            "primaryKey":"p"}}"#
     ),
     // moments with a space; in the last column one text has a `T`
     one!(

@@ -8,10 +8,11 @@ use crate::octets::{OCTETS, SHORT_TYPES};
 use crate::patterns::PATTERNED;
 use crate::readings::{BOUNDS, DATE_FORMATS, DATES, FULL, NO_FORMATS, NUMBERS, TEXTS};
 use crate::spaced_moments::UNREAD;
+use crate::stamps::{FRACTIONS, NO_STAMPS, WITH_ZONES};
 use csvw_datatype::{
-    BinaryForm, Broken, Datatype, DateFormat, DatePart, DurationKind, Facets, Floating, Format,
-    MomentFormat, NumberFormat, RegularExpression, Simple, TextType, TimeFormat, TruthFormat,
-    Value, Width, Zone,
+    BinaryForm, Broken, ClockFormat, Datatype, DateFormat, DatePart, DurationKind, Facets,
+    Floating, Format, MomentFormat, NumberFormat, RegularExpression, Simple, StampFormat, TextType,
+    TruthFormat, Value, Width, Zone,
 };
 use csvw_datatype_core::NumberPattern;
 use csvw_text::Text;
@@ -36,6 +37,8 @@ pub(crate) enum Pattern {
     Truth(&'static str),
     /// A format of times of day.
     Time(&'static str),
+    /// A format of moments that may have parts of a second and a zone.
+    Stamp(&'static str),
     /// A regular expression.
     Expression(&'static str),
 }
@@ -144,7 +147,8 @@ fn format_of(alloc: Global, pattern: &Pattern) -> Result<Option<Format>, AllocEr
         Pattern::Day(text) => Ok(DateFormat::of(text).map(Format::Day)),
         Pattern::Moment(text) => Ok(MomentFormat::of(text).map(Format::Moment)),
         Pattern::Truth(text) => truth_format_of(alloc, text),
-        Pattern::Time(text) => Ok(TimeFormat::of(text).map(Format::Time)),
+        Pattern::Time(text) => Ok(ClockFormat::of(text).map(Format::Time)),
+        Pattern::Stamp(text) => Ok(StampFormat::of(text).map(Format::Stamp)),
         Pattern::Expression(text) => expression_of(alloc, text),
     }
 }
@@ -323,6 +327,9 @@ fn all_hold(rt: &impl Abort, alloc: Global) -> Result<(), AllocError> {
         &DATE_TIMES,
         &STAMPS,
         &UNREAD,
+        &FRACTIONS,
+        &WITH_ZONES,
+        &NO_STAMPS,
     ] {
         rows_hold(rt, alloc, rows)?;
     }

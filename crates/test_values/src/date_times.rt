@@ -50,7 +50,7 @@ pub(crate) static DATE_TIMES: [Row; 10] = [
     Row {
         simple: Simple::Other(TextType::DateTime(Zone::Optional)),
         limits: FROM_2020,
-        claim: Claim::Sound(false),
+        claim: Claim::Sound(true),
         ..PLAIN
     },
     Row {
@@ -76,7 +76,7 @@ pub(crate) static STAMPS: [Row; 4] = [
     Row {
         simple: Simple::Other(TextType::DateTime(Zone::Required)),
         limits: FROM_2020,
-        claim: Claim::Sound(false),
+        claim: Claim::Sound(true),
         ..PLAIN
     },
     Row {

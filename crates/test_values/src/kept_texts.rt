@@ -101,9 +101,10 @@ pub(crate) static TIMES: [Row; 6] = [
 ];
 
 const SECONDS: &str = "\
-00:00:00;23:59:59;13:20:30;\
+00:00:00;23:59:59;13:20:30;13:20:30.5;13:20:30.50=>13:20:30.5;13:20:30.000=>13:20:30;00:00:00.0001;\
+23:59:59.999999999999;13:20:30.=>BadTime;13:20:30,5=>BadTime;13:20:30.5Z=>BadTime;13:20.5=>BadTime;13:20:30.5 =>BadTime;\
 24:00:00=>BadTime;23:60:00=>BadTime;23:59:60=>BadTime;1:20:30=>BadTime;13:20=>BadTime;132030=>BadTime;\
-13:20:30Z=>BadTime;13:20:30.5=>BadTime;-13:20:30=>BadTime;=>BadTime";
+13:20:30Z=>BadTime;-13:20:30=>BadTime;=>BadTime";
 
 /// Names, and tags of languages.
 pub(crate) static NAMED: [Row; 6] = [

@@ -16,6 +16,8 @@ mod doubles;
 #[cfg(test)]
 mod durations;
 #[cfg(test)]
+mod durations_order;
+#[cfg(test)]
 mod encoded;
 #[cfg(test)]
 mod expressions;
@@ -42,11 +44,15 @@ mod readings;
 #[cfg(test)]
 mod spaced_moments;
 #[cfg(test)]
+mod stamps;
+#[cfg(test)]
 mod tables;
 #[cfg(test)]
 mod telling;
 #[cfg(test)]
 mod templates;
+#[cfg(test)]
+mod temporal_order;
 #[cfg(test)]
 mod texts;
 #[cfg(test)]
