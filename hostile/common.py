@@ -57,6 +57,12 @@ BOUNDS = """{"@context":"http://www.w3.org/ns/csvw","url":"b.csv","tableSchema":
 {"name":"share","datatype":{"base":"number","minimum":0,"maxExclusive":"1.5E3"}},
 {"name":"logs","separator":";","datatype":{"base":"double","minExclusive":"-INF","maxInclusive":"0.00000012"}}]}}"""
 
+RANGES = """{"@context":"http://www.w3.org/ns/csvw","url":"r.csv","tableSchema":{"columns":[
+{"name":"at","separator":";","datatype":{"base":"dateTime","minimum":"2020-01-31T08:30:00.25+01:00","maxExclusive":"2021-01-01T00:00:00Z"}},
+{"name":"years","separator":";","datatype":{"base":"gYear","minInclusive":"-0044","maxInclusive":"2015+01:00"}},
+{"name":"took","datatype":{"base":"duration","minExclusive":"PT36H","maximum":"P1M"}},
+{"name":"clock","datatype":{"base":"time","maximum":"17:00:00"}}]}}"""
+
 LINKED = """{"@context":"http://www.w3.org/ns/csvw","url":"l.csv","tableSchema":"s.json","dialect":"d.json"}"""
 
 RESOURCES = "--profile w3c --resource http://example.org/s.json=linked/s.json --resource http://example.org/d.json=linked/d.json"
@@ -92,6 +98,9 @@ FILES = {
     "formatted/f.csv": 'share,logs\n"12,345,678.5","1.234.567,000000000000000001E-300;INF;5%"\n1234.5,"1,5E"\n"100,000,000,000,000,000,000.5",\n',
     "bounds/meta.json": BOUNDS,
     "bounds/b.csv": f"share,logs\n1.{'12' * 30}E2,-1e300;-INF;1.2E-7\n-0.5,1\n1500,NaN\nINF,\n",
+    "ranges/meta.json": RANGES,
+    "ranges/r.csv": f"at,years,took,clock\n2020-01-31T07:30:00.25Z;2020-06-01T00:00:00.{'10' * 20};2021-01-01T00:00:00Z,-0044;{'9' * 40};2015Z,P30D,17:00:00\n"
+                    "2020-01-31T20:00:00,2015,P1DT13H,17:00:01\n2020-02-30T00:00:00,,P1W,\n",
     "linked/meta.json": LINKED,
     "linked/s.json": SCHEMA,
     "linked/d.json": '{"delimiter":"|","trim":true}',
@@ -132,6 +141,7 @@ RUNS = [
     Run("moments with zones", group("convert --minimal --profile w3c", "moments", "m.csv")),
     Run("moments with a space", group("convert --minimal --profile w3c", "spaced", "s.csv")),
     Run("bounds of numbers with an exponent", group("convert --minimal --profile w3c", "bounds", "b.csv")),
+    Run("bounds of moments, years, durations and times", group("convert --minimal --profile w3c", "ranges", "r.csv")),
     Run("formats of numbers with an exponent", group("convert --minimal --profile w3c", "formatted", "f.csv")),
     Run("durations and octets", group("convert --minimal --profile w3c", "octets", "o.csv")),
     Run("resources", group(f"convert {RESOURCES}", "linked", "l.csv")),
