@@ -60,6 +60,7 @@ STANDARDS = {
     "URL Standard": "URL Standard",
     "XML 1.0": "XML 1.0",
     "XML Schema Part 2": "XML Schema Part 2",
+    "XML Schema 1.1 Part 2": "XML Schema Part 2",
     "RDF 1.1 Concepts": "RDF 1.1 Concepts",
     "RDF 1.1 N-Triples": "RDF 1.1 N-Triples",
     "RDF Schema 1.1": "RDF Schema 1.1",
