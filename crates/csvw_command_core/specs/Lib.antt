@@ -3,3 +3,4 @@ pub mod Mistakes
 pub mod Resources
 pub mod StandardInput
 pub mod Joined
+pub mod Table

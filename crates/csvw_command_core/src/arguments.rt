@@ -1,8 +1,7 @@
 //! The options, flags and positional arguments, in clap's terms.
 ghost use Rattle.clap.specs.Words.{rule_of};
-ghost use Rattle.clap.specs.Words.{new_rule};
-ghost use Rattle.csvw_command_core.specs.Asked.{base_rule, files_rule, flag_rule, option_rule, parts_rule, required_rule, resource_rule, some_files_rule};
-ghost use Rattle.std.specs.Prelude.{◌≡◌, codes, false};
+ghost use Rattle.csvw_command_core.specs.Table.{rule_of_argument};
+ghost use Rattle.std.specs.Prelude.{◌≡◌, false};
 
 use crate::argument_help;
 use clap::{Arg, ArgAction};
@@ -52,97 +51,261 @@ pub(crate) const PARTS: &str = "parts";
 
 pub(crate) const KEYS: &str = "keys";
 
-/// A positional argument that must be given.
-pub(crate) fn required_word<'a>(alloc: Global, id: &'a str, help: &'a str) -> Arg<'a>
-    ensures rule { rule_of result ≡ required_rule id.entry.now }
-    ensures local { result.global ≡ false }
-{
-    Arg::new(alloc, id).required(true).help(help)
+/// How an argument is given.
+pub(crate) enum Form {
+    /// One word, by its place.
+    Word,
+    /// One word or more, by their place.
+    Words,
+    /// A flag.
+    Flag,
+    /// An option with a value, which help calls so.
+    Value(&'static str),
+    /// An option with a value, which may be given several times.
+    Values(&'static str),
 }
 
-/// A flag.
-pub(crate) fn flag<'a>(alloc: Global, id: &'a str, help: &'a str) -> Arg<'a>
-    ensures rule { rule_of result ≡ flag_rule id.entry.now }
-    ensures local { result.global ≡ false }
-{
-    Arg::new(alloc, id)
-        .long(id)
-        .action(ArgAction::SetTrue)
-        .help(help)
+/// An option, a flag or a positional argument of a subcommand.
+pub(crate) struct Argument {
+    /// Its name. An option or a flag has it as its long name too.
+    id: &'static str,
+    /// How it is given.
+    form: Form,
+    /// Whether it must be given.
+    is_required: bool,
+    /// Its help.
+    help: &'static str,
 }
 
-/// An option with a value, which may be one of the values that `value_name` lists.
-pub(crate) fn option<'a>(alloc: Global, id: &'a str, value_name: &'a str, help: &'a str) -> Arg<'a>
-    ensures rule { rule_of result ≡ option_rule id.entry.now }
+/// Makes the argument of a row.
+pub(crate) fn arg_of<'a>(alloc: Global, row: &'static Argument) -> Arg<'a>
+    ensures rule { rule_of result ≡ rule_of_argument row.now }
     ensures local { result.global ≡ false }
 {
-    Arg::new(alloc, id)
-        .long(id)
-        .value_name(value_name)
-        .help(help)
+    let arg = Arg::new(alloc, row.id)
+        .required(row.is_required)
+        .help(row.help);
+    match row.form {
+        Form::Word => arg,
+        Form::Words => arg.num_args(1..),
+        Form::Flag => arg.long(row.id).action(ArgAction::SetTrue),
+        Form::Value(name) => arg.long(row.id).value_name(name),
+        Form::Values(name) => arg.long(row.id).value_name(name).action(ArgAction::Append),
+    }
 }
 
-/// The URL of the document, which must be given.
-pub(crate) fn base<'a>(alloc: Global) -> Arg<'a>
-    ensures rule { rule_of result ≡ base_rule }
-    ensures local { result.global ≡ false }
-{
-    Arg::new(alloc, BASE)
-        .long(BASE)
-        .value_name(URL)
-        .required(true)
-        .help(argument_help::BASE)
-}
+/// The URL of a table.
+pub(crate) const URL_WORD: Argument = Argument {
+    id: URL,
+    form: Form::Word,
+    is_required: true,
+    help: argument_help::URL,
+};
 
-/// The number of parts, which must be given.
-pub(crate) fn parts<'a>(alloc: Global) -> Arg<'a>
-    ensures rule { rule_of result ≡ parts_rule }
-    ensures local { result.global ≡ false }
-{
-    Arg::new(alloc, PARTS)
-        .long(PARTS)
-        .value_name("N")
-        .required(true)
-        .help(argument_help::PARTS)
-}
+/// The file of one table.
+pub(crate) const FILE_WORD: Argument = Argument {
+    id: FILE,
+    form: Form::Word,
+    is_required: true,
+    help: argument_help::FILE,
+};
 
-/// The file that has what a URL names. It may be given several times.
-pub(crate) fn resource<'a>(alloc: Global) -> Arg<'a>
-    ensures rule { rule_of result ≡ resource_rule }
-    ensures local { result.global ≡ false }
-{
-    Arg::new(alloc, RESOURCE)
-        .long(RESOURCE)
-        .value_name("URL=FILE")
-        .action(ArgAction::Append)
-        .help(argument_help::RESOURCE)
-}
+/// The file of the document.
+pub(crate) const META_WORD: Argument = Argument {
+    id: META,
+    form: Form::Word,
+    is_required: true,
+    help: argument_help::META,
+};
 
-/// One file or more.
-pub(crate) fn files<'a>(alloc: Global, help: &'a str) -> Arg<'a>
-    ensures rule { rule_of result ≡ files_rule }
-    ensures local { result.global ≡ false }
-{
-    Arg::new(alloc, FILE)
-        .required(true)
-        .num_args(1..)
-        .help(help)
-}
-
-/// Files of tables, if they are given.
-pub(crate) fn some_files<'a>(alloc: Global) -> Arg<'a>
-    ensures rule { rule_of result ≡ some_files_rule }
-    ensures local { result.global ≡ false }
-{
-    Arg::new(alloc, FILE)
-        .num_args(1..)
-        .help(argument_help::SOME_FILES)
-}
+/// The name of a shell.
+pub(crate) const SHELL_WORD: Argument = Argument {
+    id: SHELL,
+    form: Form::Word,
+    is_required: true,
+    help: argument_help::SHELL,
+};
 
 /// A code, if it is given.
-pub(crate) fn code<'a>(alloc: Global) -> Arg<'a>
-    ensures rule { rule_of result ≡ new_rule (codes "CODE") }
-    ensures local { result.global ≡ false }
-{
-    Arg::new(alloc, CODE).help(argument_help::CODE)
-}
+pub(crate) const CODE_WORD: Argument = Argument {
+    id: CODE,
+    form: Form::Word,
+    is_required: false,
+    help: argument_help::CODE,
+};
+
+/// The files of the tables, at least one.
+pub(crate) const FILE_WORDS: Argument = Argument {
+    id: FILE,
+    form: Form::Words,
+    is_required: true,
+    help: argument_help::FILES,
+};
+
+/// The files of the tables, if they are given.
+pub(crate) const SOME_FILE_WORDS: Argument = Argument {
+    id: FILE,
+    form: Form::Words,
+    is_required: false,
+    help: argument_help::SOME_FILES,
+};
+
+/// The files of reports, at least one.
+pub(crate) const REPORT_WORDS: Argument = Argument {
+    id: FILE,
+    form: Form::Words,
+    is_required: true,
+    help: argument_help::REPORT_FILES,
+};
+
+/// The URL of the document, which must be given.
+pub(crate) const BASE_VALUE: Argument = Argument {
+    id: BASE,
+    form: Form::Value(URL),
+    is_required: true,
+    help: argument_help::BASE,
+};
+
+/// The URL of the document, if it is given.
+pub(crate) const OWN_BASE_VALUE: Argument = Argument {
+    id: BASE,
+    form: Form::Value(URL),
+    is_required: false,
+    help: argument_help::OWN_BASE,
+};
+
+/// The URL that the tables' URLs are resolved against, if it is given.
+pub(crate) const DRAFT_BASE_VALUE: Argument = Argument {
+    id: BASE,
+    form: Form::Value(URL),
+    is_required: false,
+    help: argument_help::DRAFT_BASE,
+};
+
+/// The number of parts, which must be given.
+pub(crate) const PARTS_VALUE: Argument = Argument {
+    id: PARTS,
+    form: Form::Value("N"),
+    is_required: true,
+    help: argument_help::PARTS,
+};
+
+/// The profile of the document.
+pub(crate) const PROFILE_VALUE: Argument = Argument {
+    id: PROFILE,
+    form: Form::Value("core|w3c"),
+    is_required: false,
+    help: argument_help::PROFILE,
+};
+
+/// The files that have what URLs name.
+pub(crate) const RESOURCE_VALUES: Argument = Argument {
+    id: RESOURCE,
+    form: Form::Values("URL=FILE"),
+    is_required: false,
+    help: argument_help::RESOURCE,
+};
+
+/// The number of the part that is read.
+pub(crate) const PART_VALUE: Argument = Argument {
+    id: PART,
+    form: Form::Value("K"),
+    is_required: false,
+    help: argument_help::PART,
+};
+
+/// The file of the plan of the parts.
+pub(crate) const PLAN_VALUE: Argument = Argument {
+    id: PLAN,
+    form: Form::Value("PLAN"),
+    is_required: false,
+    help: argument_help::PLAN,
+};
+
+/// The file to which the keys are written.
+pub(crate) const KEYS_VALUE: Argument = Argument {
+    id: KEYS,
+    form: Form::Value("KEYS"),
+    is_required: false,
+    help: argument_help::KEYS,
+};
+
+/// The form of the report.
+pub(crate) const REPORT_VALUE: Argument = Argument {
+    id: REPORT,
+    form: Form::Value("csv|text|html|json"),
+    is_required: false,
+    help: argument_help::REPORT,
+};
+
+/// When the report has colours.
+pub(crate) const COLOR_VALUE: Argument = Argument {
+    id: COLOR,
+    form: Form::Value("auto|always|never"),
+    is_required: false,
+    help: argument_help::COLOR,
+};
+
+/// Whether all faults are shown.
+pub(crate) const ALL_FLAG: Argument = Argument {
+    id: ALL,
+    form: Form::Flag,
+    is_required: false,
+    help: argument_help::ALL,
+};
+
+/// Whether a warning counts as an error.
+pub(crate) const STRICT_FLAG: Argument = Argument {
+    id: STRICT,
+    form: Form::Flag,
+    is_required: false,
+    help: argument_help::STRICT,
+};
+
+/// Whether a stop is explained.
+pub(crate) const EXPLAIN_FLAG: Argument = Argument {
+    id: EXPLAINED,
+    form: Form::Flag,
+    is_required: false,
+    help: argument_help::EXPLAINED,
+};
+
+/// Whether the progress is shown.
+pub(crate) const PROGRESS_FLAG: Argument = Argument {
+    id: PROGRESS,
+    form: Form::Flag,
+    is_required: false,
+    help: argument_help::PROGRESS,
+};
+
+/// Whether files are read in turn.
+pub(crate) const TURNS_FLAG: Argument = Argument {
+    id: TURNS,
+    form: Form::Flag,
+    is_required: false,
+    help: argument_help::TURNS,
+};
+
+/// Whether the graph is that of minimal mode.
+pub(crate) const MINIMAL_FLAG: Argument = Argument {
+    id: MINIMAL,
+    form: Form::Flag,
+    is_required: false,
+    help: argument_help::MINIMAL,
+};
+
+/// Whether each line is sent when it is made.
+pub(crate) const LINE_BUFFERED_FLAG: Argument = Argument {
+    id: LINE_BUFFERED,
+    form: Form::Flag,
+    is_required: false,
+    help: argument_help::LINE_BUFFERED,
+};
+
+/// Whether the document is shown as JSON.
+pub(crate) const JSON_FLAG: Argument = Argument {
+    id: JSON,
+    form: Form::Flag,
+    is_required: false,
+    help: argument_help::JSON,
+};
