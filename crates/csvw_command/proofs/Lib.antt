@@ -1,6 +1,1 @@
-mod Ending
 mod Looking
-mod Opening
-mod ResourceLemmas
-mod Running
-mod Sending

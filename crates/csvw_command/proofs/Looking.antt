@@ -2,7 +2,7 @@
 use Rattle.std.proofs.Common.{ℕ, Bool, true, false, inl, inr}
 use Rattle.csvw_streams.specs.Streams.{Stream}
 use Rattle.csvw_engine_core.specs.declared.stop.Stop.{Stop}
-use Rattle.csvw_command.specs.Answers.{TellsStop}
+use Rattle.csvw_command_runs.specs.Answers.{TellsStop}
 use Rattle.csvw_command.specs.Commands.{RunsInspect}
 
 pub stops : (explain : Bool) (err : Stream) (status : ℕ) (reason : Stop) → TellsStop reason err status → RunsInspect explain err status

@@ -1,51 +1,23 @@
 -- One run of the program: its words, its files, its two streams and its exit status: `Commands`.
-use Rattle.std.specs.Prelude.{◌≡◌, ◌⊎◌, ◌≤◌, ℕ, Bool, List, [], ◌∷◌, Option, None, Some, false, true}
+use Rattle.std.specs.Prelude.{◌≡◌, ◌⊎◌, ◌≤◌, ℕ, Bool, List, Option, false, true}
 use Rattle.clap.specs.Words.{HasKind, Text, fault_of, kind_of}
 use Rattle.clap.specs.declared.error.Error.{Error}
 use Rattle.csvw_engine_core.specs.declared.stop.Stop.{Stop}
-use Rattle.csvw_engine_core.specs.declared.stop.Stop.TheVariants as stop
 use Rattle.csvw_triples_core.specs.declared.mode.Mode.TheVariants as mode
 use Rattle.csvw_command_core.specs.Asked.{Asks, program_app}
 use Rattle.csvw_command_core.specs.Mistakes.{IsMistaken, IsSound}
 use Rattle.csvw_command_core.specs.declared.request.Request.{Request}
 use Rattle.csvw_command_core.specs.declared.request.Request.TheVariants.{Check, Completions, Convert, Draft, Explain, Inspect, Keys, Manual, Plain, Report, Split, Validate}
-use Rattle.csvw_meta.specs.Document.{plain_description}
-use Rattle.csvw_engine.specs.ReadOrder.{AreTableByTable}
-use Rattle.csvw_engine.specs.Runs.{Runs}
-use Rattle.csvw_command.specs.Answers.{Answers, GivesHelp, LacksMemory, TellsMistake, TellsStop}
+use Rattle.csvw_command_runs.specs.Answers.{Answers, Gives, TellsMistake, TellsStop}
+use Rattle.csvw_command_runs.specs.Defaults.{is_default, is_whole}
+use Rattle.csvw_command_runs.specs.Groups.{RunsGroup, conversion}
+use Rattle.csvw_command_runs.specs.Plain.{RunsPlain}
 use Rattle.csvw_command.specs.Explained.{IsExplained}
-use Rattle.csvw_command.specs.Groups.{ComesToEnd, RunsGroup, StopsEarly, conversion}
-use Rattle.csvw_command.specs.Shown.{ShowsRun, is_default, is_whole}
+use Rattle.csvw_command.specs.Shown.{ShowsRun}
 use Rattle.csvw_triples_core.specs.declared.mode.Mode.{Mode}
 use Rattle.csvw_command_core.specs.declared.request.Group.{Group}
 use Rattle.csvw_streams.specs.declared.counted.Counted.{Counted}
-use Rattle.csvw_streams.specs.Counted.{inner_of, failures_of}
 use Rattle.csvw_streams.specs.Streams.{Stream, IsIdle}
-
--- The table at this URL is read from a reader that hasn't failed, and converted; the report goes to `err`. The reader is handed back as the run
--- left it.
-pub record RunsOver {O R : Type 0} (closes : O → Counted R → O → Type 0) (remaining : R → Option (List ℕ)) (url : Text) (reader : R) (between new : O)
-    (out err : Stream) (status : ℕ) : Type 0 where
-  pub input : Counted R
-  pub is_reader : inner_of input ≡ reader
-  pub steady : failures_of input ≡ 0
-  pub left : Counted R
-  pub closed : closes between left new
-  pub runs : ComesToEnd (Runs remaining AreTableByTable (plain_description url) mode.Minimal (input ∷ []) (left ∷ []) out) err status
-      ⊎ StopsEarly (Runs remaining AreTableByTable (plain_description url) mode.Minimal (input ∷ []) (left ∷ []) out) err status
-
--- what follows from the reader that a file's path gave
-abbrev pub RunsOn : {O R : Type 0} → (O → Counted R → O → Type 0) → (R → Option (List ℕ)) → Text → O → O → Stream → Stream → ℕ → Option R → Type 0
-RunsOn closes remaining url between new out err status None = (new ≡ between) × IsIdle out × TellsStop stop.Read err status
-RunsOn closes remaining url between new out err status (Some reader) = RunsOver closes remaining url reader between new out err status
-
--- the file is opened, once, and its reader read as the table at this URL
-pub record RunsPlain {O R : Type 0} (opens : O → Text → Option R → O → Type 0) (closes : O → Counted R → O → Type 0) (remaining : R → Option (List ℕ))
-    (url file : Text) (old new : O) (out err : Stream) (status : ℕ) : Type 0 where
-  pub opened : Option R
-  pub between : O
-  pub is_opened : opens old file opened between
-  pub runs : RunsOn closes remaining url between new out err status opened
 
 -- The table is read as by a run without the explanation, which stops. Behind the line of the stop a text follows, for which files may be opened.
 pub record ExplainsPlain {O R : Type 0} (opens : O → Text → Option R → O → Type 0) (closes : O → Counted R → O → Type 0) (remaining : R → Option (List ℕ))
@@ -60,10 +32,6 @@ abbrev pub RunsTable : {O R : Type 0} → (O → Text → Option R → O → Typ
 RunsTable opens closes remaining false url file old new out err status = RunsPlain opens closes remaining url file old new out err status
 RunsTable opens closes remaining true url file old new out err status =
     RunsPlain opens closes remaining url file old new out err status ⊎ ExplainsPlain opens closes remaining url file old out err status
-
--- a text on codes is given, or there is no such code, or memory ran out
-abbrev pub Gives : Stream → Stream → ℕ → Type 0
-Gives out err status = GivesHelp out err status ⊎ (TellsMistake out err status ⊎ LacksMemory out err status)
 
 -- A run over a group is `RunsGroup`, where its report and stop are told as a run tells them; else they are shown after it. Of a run over one part
 -- nothing is said here but the bound of the status.

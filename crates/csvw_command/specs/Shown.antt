@@ -1,26 +1,12 @@
 -- A run whose report is shown in another form, whose warnings count, or whose stop is explained: `ShowsRun`.
-use Rattle.std.specs.Prelude.{◌≡◌, ◌⊎◌, ◌&&◌, ℕ, Bool, true, List, Option, None, Some, bytes_eq, codes, is_some, not}
-use Rattle.std.specs.Borrow.{Bor}
+use Rattle.std.specs.Prelude.{◌≡◌, ◌⊎◌, ℕ, Bool, true, List, Option}
 use Rattle.clap.specs.Words.{Text}
 use Rattle.csvw_streams.specs.declared.counted.Counted.{Counted}
 use Rattle.csvw_streams.specs.Streams.{Stream}
 use Rattle.csvw_triples_core.specs.declared.mode.Mode.{Mode}
 use Rattle.csvw_triples_core.specs.declared.mode.Mode.TheVariants as mode
 use Rattle.csvw_command_core.specs.declared.request.Group.{Group}
-use Rattle.csvw_command.specs.Groups.{RunsGroup}
-
--- the report is CSV, as it is where no form is given
-abbrev pub is_csv : Option (Bor Text) → Bool
-is_csv None = true
-is_csv (Some name) = bytes_eq name.now (codes "csv")
-
--- the report and a stop are told as a run tells them, and warnings don't count
-abbrev pub is_default : Group → Bool
-is_default group = is_csv group.reporting.form && (not group.reporting.strict && not group.explain)
-
--- all rows are read, and not those of one part; only a part writes its keys
-abbrev pub is_whole : Group → Bool
-is_whole group = not (is_some group.part) && (not (is_some group.plan) && not (is_some group.keys))
+use Rattle.csvw_command_runs.specs.Groups.{RunsGroup}
 
 -- The status is that of the run, or 4 where the page can't be made or sent, or 1 where warnings count.
 abbrev pub IsShownStatus : Bool → ℕ → ℕ → Type 0

@@ -3,8 +3,8 @@ ghost use Rattle.csvw_command.specs.Explained.{TellsText};
 ghost use Rattle.csvw_streams.specs.Streams.{stream_of};
 
 use crate::shown::color_of;
-use crate::tell::send;
 use csvw_check::{Form, Show, ShowTable, Shown, explain_look_stop, explain_table_stop};
+use csvw_command_runs::send;
 use csvw_engine::Stop;
 use csvw_files::Opener;
 use csvw_inspect::Inspect;

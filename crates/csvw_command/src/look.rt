@@ -4,10 +4,8 @@ ghost use Rattle.csvw_command.specs.Commands.{RunsInspect};
 ghost use Rattle.csvw_streams.specs.Streams.{stream_of};
 
 use crate::explained::{StoppedLook, explain_look};
-use crate::profile::profile_of;
-use crate::resources::resource_files;
-use crate::tell::{SUCCESS, tell_stop};
 use csvw_command_core::Inspected;
+use csvw_command_runs::{SUCCESS, profile_of, resource_files, tell_stop};
 use csvw_engine::Stop;
 use csvw_files::Opener;
 use csvw_inspect::{Inspect, InspectForm, inspect};

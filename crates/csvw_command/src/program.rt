@@ -1,26 +1,22 @@
 //! What one run of the program does, over any files and writers.
 ghost use Rattle.std.specs.Prelude.{◌≡◌, ◌≤◌, map, string_bytes};
 ghost use Rattle.clap.specs.Words.{kind_of};
-ghost use Rattle.csvw_command.specs.Answers.{Answers};
+ghost use Rattle.csvw_command_runs.specs.Answers.{Answers};
 ghost use Rattle.csvw_command.specs.Commands.{Commands, RunsRequest};
-ghost use Rattle.csvw_command.specs.Groups.{conversion};
+ghost use Rattle.csvw_command_runs.specs.Groups.{conversion};
 ghost use Rattle.csvw_streams.specs.Streams.{stream_of};
 
-use crate::group::GroupRun;
-use crate::keys::run_keys;
 use crate::look::{base_of, run_inspect};
-use crate::profile::profile_of;
-use crate::reports::run_join;
-use crate::resources::resource_files;
 use crate::shown::{color_of, form_of, run_report, shown_of};
-use crate::split::run_split;
-use crate::table::{PlainTable, run_table};
-use crate::tell::{SUCCESS, tell_mistake, tell_stop};
-use crate::texts::{give_text, run_completions, run_explain, run_manual};
+use crate::table::run_table;
 use clap::Error;
 use clap::error::ErrorKind;
 use csvw_check::{Check, Strict, check};
 use csvw_command_core::{CheckedGroup, DraftedFiles, Request, mistake_in, requested};
+use csvw_command_runs::{
+    GroupRun, PlainTable, SUCCESS, give_text, profile_of, resource_files, run_completions,
+    run_explain, run_join, run_keys, run_manual, run_split, tell_mistake, tell_stop,
+};
 use csvw_draft::{Draft, draft};
 use csvw_engine::Stop;
 use csvw_files::Opener;

@@ -1,17 +1,17 @@
 //! Runs whose report is shown in another form than CSV, whose warnings count, or whose stop is explained.
 ghost use Rattle.std.specs.Prelude.{◌≡◌, ◌≤◌, false, true};
-ghost use Rattle.csvw_command.specs.Groups.{RunsGroup};
-ghost use Rattle.csvw_command.specs.Shown.{IsShownStatus, ShowsRun, is_csv, is_default, is_whole};
+ghost use Rattle.csvw_command_runs.specs.Groups.{RunsGroup};
+ghost use Rattle.csvw_command.specs.Shown.{IsShownStatus, ShowsRun};
+ghost use Rattle.csvw_command_runs.specs.Defaults.{is_default, is_whole};
 ghost use Rattle.csvw_streams.specs.Streams.{stream_of};
 ghost use Rattle.csvw_triples_core.specs.declared.mode.Mode.TheVariants as mode;
 
-use crate::group::{Ended, GroupRun, run_group};
-use crate::parts::run_one_part;
-use crate::profile::profile_of;
-use crate::resources::resource_files;
-use crate::tell::tell_stop;
 use csvw_check::{Color, Form, Halt, Show, Shown, explain_stop, show};
 use csvw_command_core::{Group, Reporting};
+use csvw_command_runs::{
+    Ended, GroupRun, is_csv, is_default, is_whole, profile_of, resource_files, run_group,
+    run_one_part, tell_stop,
+};
 use csvw_engine::Stop;
 use csvw_files::{Colors, Opener, ResourceFile};
 use csvw_text::Counted;
@@ -24,29 +24,6 @@ const WARNED: u8 = 1;
 
 /// The status if the page can't be made or sent.
 const UNSENT: u8 = 4;
-
-fn is_csv(form: Option<&str>) -> bool
-    ensures { result ≡ is_csv form.entry }
-{
-    match form {
-        Some(name) => name == "csv",
-        None => true,
-    }
-}
-
-/// Returns whether all rows are read, and not those of one part.
-fn is_whole(group: &Group<'_>) -> bool
-    ensures { result ≡ is_whole group.now }
-{
-    group.part.is_none() && group.plan.is_none() && group.keys.is_none()
-}
-
-/// Whether the report and a stop are told as a run tells them.
-pub(crate) fn is_default(group: &Group<'_>) -> bool
-    ensures { result ≡ is_default group.now }
-{
-    is_csv(group.reporting.form) && !group.reporting.strict && !group.explain
-}
 
 /// Returns the form of a page that has a name. The name of no other form is text.
 pub fn form_of(name: Option<&str>) -> Form {

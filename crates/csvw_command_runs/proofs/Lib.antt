@@ -1,0 +1,5 @@
+mod Ending
+mod Opening
+mod ResourceLemmas
+mod Running
+mod Sending
