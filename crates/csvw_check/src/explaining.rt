@@ -9,7 +9,7 @@ use csvw_columns::Plan;
 use csvw_engine_core::Stop;
 use csvw_files::Opener;
 use csvw_meta::{Description, MetaCode, MetaFault, ReadDescription};
-use csvw_page::{StopShown, push_text};
+use csvw_page::{StopShown, push_location};
 use csvw_streams::Counted;
 use std::alloc::{AllocError, Global};
 use std::io::Write;
@@ -30,7 +30,7 @@ fn push_url_hint(hints: &mut String, url: &str, code: MetaCode) -> Result<(), Al
     match code {
         MetaCode::BadUrl => {
             hints.push_str("    ")?;
-            push_text(hints, url)?;
+            push_location(hints, url)?;
             hints.push_str(
                 " is no absolute URL: write one, as in `csvw plain http://example.org/t.csv t.csv`\n",
             )

@@ -2,7 +2,7 @@
 
 use csvw_hints::text_at;
 use csvw_meta::{MetaCode, MetaFault};
-use csvw_page::push_text;
+use csvw_page::push_location;
 use std::alloc::AllocError;
 
 /// Returns a pointer as far as the first property of a name, if it has one.
@@ -23,11 +23,11 @@ fn property_in(pointer: &str) -> Option<&str> {
 fn push_give(hints: &mut String, url: &str) -> Result<(), AllocError> {
     let is_absolute = url.contains("://");
     hints.push_str("    give its file: --profile w3c --resource ")?;
-    push_text(hints, if is_absolute { url } else { "URL" })?;
+    push_location(hints, if is_absolute { url } else { "URL" })?;
     hints.push_str("=FILE")?;
     if !is_absolute {
         hints.push_str(", where URL is the absolute URL of ")?;
-        push_text(hints, url)?;
+        push_location(hints, url)?;
     }
     hints.push('\n')
 }
@@ -35,7 +35,7 @@ fn push_give(hints: &mut String, url: &str) -> Result<(), AllocError> {
 /// Adds that a fault is in the file of a resource.
 fn push_wrong(hints: &mut String, url: &str) -> Result<(), AllocError> {
     hints.push_str("    the fault is in the file of ")?;
-    push_text(hints, url)?;
+    push_location(hints, url)?;
     hints.push('\n')
 }
 

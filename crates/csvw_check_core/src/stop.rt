@@ -5,7 +5,7 @@ use csvw_columns::{TablePlan, TableStop};
 use csvw_engine_core::Stop;
 use csvw_files::{Opener, STANDARD_INPUT};
 use csvw_hints::{Tables, dialect_hint, push_disguise};
-use csvw_page::{Page, StopShown, push_text};
+use csvw_page::{Page, StopShown, push_location};
 use csvw_records::RowStop;
 use csvw_reread::{seek, swapped};
 use csvw_streams::Counted;
@@ -74,7 +74,7 @@ fn tell_record_stop<O: Opener>(
 fn push_file(hints: &mut String, place: usize, path: &str) -> Result<(), AllocError> {
     let number = place.saturating_add(1);
     write!(hints, "table {number} has ")?;
-    push_text(hints, path)
+    push_location(hints, path)
 }
 
 /// Adds which files two tables have by their URLs, if they look swapped.

@@ -1,6 +1,6 @@
 //! Files that are no text in UTF-8, known by their first bytes.
 
-use csvw_page::push_text;
+use csvw_page::push_location;
 use std::alloc::AllocError;
 
 /// Returns what a file is by its first bytes, if it is no text in UTF-8, and what to do.
@@ -25,7 +25,7 @@ fn disguise(bytes: &[u8]) -> Option<&'static str> {
 /// Adds what a file is by its first bytes, if it is no text. Returns `AllocError` if memory runs out.
 pub fn push_disguise(lines: &mut String, path: &str, bytes: &[u8]) -> Result<(), AllocError> {
     if let Some(text) = disguise(bytes) {
-        push_text(lines, path)?;
+        push_location(lines, path)?;
         write!(lines, ": {text}\n")?;
     }
     Ok(())

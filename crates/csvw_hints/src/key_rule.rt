@@ -2,7 +2,7 @@
 
 use crate::tables::{TableAt, declared, title_of};
 use csvw_columns::{ForeignKeyPlan, TablePlan};
-use csvw_page::{push_quoted, push_text};
+use csvw_page::{push_location, push_quoted};
 use std::alloc::AllocError;
 
 /// Adds columns of a table, by their numbers and names.
@@ -43,7 +43,7 @@ fn push_foreign_key(
     write!(text, ", to table {number}")?;
     if let Some(path) = table.tables.path_at(number) {
         text.push(' ')?;
-        push_text(text, path)?;
+        push_location(text, path)?;
     }
     if let Some(plan) = table.tables.plan_at(number) {
         text.push_str(", ")?;

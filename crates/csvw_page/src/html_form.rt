@@ -3,7 +3,7 @@
 use crate::counts::{Counts, Spot};
 use crate::escape::push_escaped;
 use crate::html_style::STYLE;
-use crate::line::{RowShown, push_column, push_text};
+use crate::line::{RowShown, push_column, push_location, push_text};
 use crate::shown::{
     FaultShown, Meant, MoreShown, RowPlace, SpotShown, StopPlace, StopShown, Summary, UnknownShown,
     kind_name,
@@ -16,6 +16,13 @@ use std::alloc::AllocError;
 fn push_clipped(page: &mut String, text: &str) -> Result<(), AllocError> {
     let mut shown = String::new(*page.allocator());
     push_text(&mut shown, text)?;
+    push_escaped(page, shown.as_str())
+}
+
+/// Adds a path or a JSON Pointer, as text in HTML.
+fn push_at(page: &mut String, location: &str) -> Result<(), AllocError> {
+    let mut shown = String::new(*page.allocator());
+    push_location(&mut shown, location)?;
     push_escaped(page, shown.as_str())
 }
 
@@ -34,11 +41,11 @@ pub(crate) fn push_begin(
         None => REFUSED,
     });
     page.push_str(HEAD)?;
-    push_clipped(page, meta)?;
+    push_at(page, meta)?;
     write!(page, ": {verdict}</title>\n")?;
     page.push_str(STYLE)?;
     page.push_str("</head>\n<body>\n<main>\n<h1>")?;
-    push_clipped(page, meta)?;
+    push_at(page, meta)?;
     write!(page, ": {verdict}</h1>\n")?;
     match summary {
         Some(summary) => push_summary(page, summary),
@@ -77,7 +84,7 @@ fn push_table(
     rows: Option<u64>,
     faults: u64,
 ) -> Result<(), AllocError> {
-    push_clipped(page, path)?;
+    push_at(page, path)?;
     page.push_str("</td><td class=\"number\">")?;
     push_rows(page, rows)?;
     write!(page, "</td><td class=\"number\">{faults}</td></tr>\n")
@@ -147,7 +154,7 @@ pub(crate) fn push_warnings(page: &mut String) -> Result<(), AllocError> {
 /// Adds how many properties are ignored whose places aren't known.
 pub(crate) fn push_unplaced(page: &mut String, meta: &str, times: u64) -> Result<(), AllocError> {
     page.push_str("<article class=\"warning\">\n<p class=\"at\">")?;
-    push_clipped(page, meta)?;
+    push_at(page, meta)?;
     page.push_str("</p>\n")?;
     push_name(page, "warning", "UnknownProperty")?;
     write!(
@@ -162,7 +169,7 @@ pub(crate) fn push_heading(page: &mut String, shown: &SpotShown<'_>) -> Result<(
     page.push_str("<h2 id=\"")?;
     push_anchor(page, &shown.spot)?;
     page.push_str("\">")?;
-    push_clipped(page, shown.path)?;
+    push_at(page, shown.path)?;
     push_column(page, column)?;
     let name = code.name();
     let times = shown.times;
@@ -192,7 +199,7 @@ fn push_name(page: &mut String, severity: &str, name: &str) -> Result<(), AllocE
 /// Adds the place of a fault in its file.
 fn push_place(page: &mut String, shown: &FaultShown<'_>) -> Result<(), AllocError> {
     page.push_str("<p class=\"at\">")?;
-    push_clipped(page, shown.path)?;
+    push_at(page, shown.path)?;
     push_row_place(page, shown)?;
     push_column(page, shown.fault.place.column)?;
     push_column_name(page, shown.name)?;
@@ -278,7 +285,7 @@ pub(crate) fn push_rest(page: &mut String, times: u64) -> Result<(), AllocError>
 /// Adds a property of the document that is ignored.
 pub(crate) fn push_unknown(page: &mut String, shown: &UnknownShown<'_>) -> Result<(), AllocError> {
     page.push_str("<article class=\"warning\">\n<p class=\"at\">")?;
-    push_clipped(page, shown.path)?;
+    push_at(page, shown.path)?;
     push_character(page, shown)?;
     push_pointer(page, shown.pointer)?;
     page.push_str("</p>\n")?;
@@ -338,7 +345,7 @@ fn push_stop_file(page: &mut String, shown: &StopShown<'_>) -> Result<(), AllocE
         return Ok(());
     }
     page.push_str("<p class=\"at\">")?;
-    push_clipped(page, shown.path)?;
+    push_at(page, shown.path)?;
     push_stop_place(page, shown)?;
     push_pointer(page, shown.pointer)?;
     page.push_str("</p>\n")
@@ -360,5 +367,5 @@ fn push_pointer(page: &mut String, pointer: &str) -> Result<(), AllocError> {
         return Ok(());
     }
     page.push_str(", at ")?;
-    push_clipped(page, pointer)
+    push_at(page, pointer)
 }

@@ -39,7 +39,7 @@ pub use counts::{Counts, Spot, spot_of};
 pub use escape::push_escaped;
 pub use form::{Color, Form};
 pub use halt::Halt;
-pub use line::{push_quoted, push_text};
+pub use line::{push_location, push_quoted, push_text};
 pub use page::Page;
 pub use shown::{
     CellShown, FaultShown, Meant, MoreShown, SpotShown, StopShown, Summary, UnknownShown,

@@ -1,4 +1,4 @@
-//! Texts of files in lines: control characters are shown, and long texts are cut.
+//! Texts, paths and pointers in lines: control characters are shown, and long ones are cut.
 
 use crate::shown::CellShown;
 use std::alloc::{AllocError, Global};
@@ -6,6 +6,9 @@ use unicode_width::UnicodeWidthChar;
 
 /// How many characters of a text are shown. The others are left out.
 const SHOWN_CHARACTERS: usize = 60;
+
+/// How many characters of a path, a URL or a JSON Pointer are shown. The others are left out.
+const LOCATION_CHARACTERS: usize = 1_000;
 
 /// How many cells are shown before a wrong cell, and how many from it on.
 const NEIGHBOURS: usize = 4;
@@ -25,19 +28,18 @@ fn is_plain(text: &str) -> bool {
     text.as_bytes().iter().all(|b| matches!(*b, b' '..=b'~'))
 }
 
-/// Adds the first 60 characters of a text, and an ellipsis if there are more. A control character is written as `\u` and
-/// four hexadecimal digits. Returns `AllocError` if memory runs out.
-pub fn push_text(line: &mut String, text: &str) -> Result<(), AllocError> {
-    if text.len() <= SHOWN_CHARACTERS && is_plain(text) {
+/// Adds the first characters of a text, and an ellipsis if there are more than so many.
+fn push_cut(line: &mut String, text: &str, most: usize) -> Result<(), AllocError> {
+    if text.len() <= most && is_plain(text) {
         line.push_str(text)
     } else {
-        push_characters(line, text)
+        push_characters(line, text, most)
     }
 }
 
-/// Adds a text as `push_text` does, character by character.
-fn push_characters(line: &mut String, text: &str) -> Result<(), AllocError> {
-    let mut left = SHOWN_CHARACTERS;
+/// Adds a text as `push_cut` does, character by character.
+fn push_characters(line: &mut String, text: &str, most: usize) -> Result<(), AllocError> {
+    let mut left = most;
     for c in text.chars() {
         if left == 0 {
             return line.push('…');
@@ -46,6 +48,18 @@ fn push_characters(line: &mut String, text: &str) -> Result<(), AllocError> {
         push_shown(line, c)?;
     }
     Ok(())
+}
+
+/// Adds the first 60 characters of a text, and an ellipsis if there are more. A control character is written as `\u` and
+/// four hexadecimal digits. Returns `AllocError` if memory runs out.
+pub fn push_text(line: &mut String, text: &str) -> Result<(), AllocError> {
+    push_cut(line, text, SHOWN_CHARACTERS)
+}
+
+/// Adds a path, a URL or a JSON Pointer: its first 1,000 characters, and an ellipsis if there are more. A control character
+/// is written as `\u` and four hexadecimal digits. Returns `AllocError` if memory runs out.
+pub fn push_location(line: &mut String, location: &str) -> Result<(), AllocError> {
+    push_cut(line, location, LOCATION_CHARACTERS)
 }
 
 /// Adds a text in quotes, as `push_text` does. Returns `AllocError` if memory runs out.

@@ -2,7 +2,7 @@
 
 use crate::counts::Spot;
 use crate::form::Color;
-use crate::line::{Mark, RowShown, push_column, push_quoted, push_text};
+use crate::line::{Mark, RowShown, push_column, push_location, push_quoted};
 use crate::shown::{
     FaultShown, Meant, MoreShown, RowPlace, StopPlace, StopShown, Summary, UnknownShown,
 };
@@ -53,7 +53,7 @@ fn push_inked(line: &mut String, text: &str, ink: Ink, color: Color) -> Result<(
 
 /// Adds the place of a fault in its file.
 fn push_place(line: &mut String, shown: &FaultShown<'_>) -> Result<(), AllocError> {
-    push_text(line, shown.path)?;
+    push_location(line, shown.path)?;
     push_row_place(line, shown)?;
     push_column(line, shown.fault.place.column)?;
     push_column_name(line, shown.name)
@@ -170,7 +170,7 @@ pub(crate) fn push_unknown(
     shown: &UnknownShown<'_>,
     color: Color,
 ) -> Result<(), AllocError> {
-    push_text(lines, shown.path)?;
+    push_location(lines, shown.path)?;
     push_character(lines, shown)?;
     push_property(lines, shown.pointer)?;
     push_ignored(lines, color)?;
@@ -188,7 +188,7 @@ fn push_property(line: &mut String, pointer: &str) -> Result<(), AllocError> {
         return Ok(());
     }
     line.push_str(": ")?;
-    push_text(line, pointer)
+    push_location(line, pointer)
 }
 
 /// Adds where the name of a property is in its document, if it is known.
@@ -217,7 +217,7 @@ pub(crate) fn push_unplaced(
     times: u64,
     color: Color,
 ) -> Result<(), AllocError> {
-    push_text(lines, meta)?;
+    push_location(lines, meta)?;
     push_ignored(lines, color)?;
     write!(
         lines,
@@ -246,7 +246,7 @@ pub(crate) fn push_more(
     shown: &MoreShown<'_>,
     color: Color,
 ) -> Result<(), AllocError> {
-    push_text(lines, shown.path)?;
+    push_location(lines, shown.path)?;
     lines.push_str(": ")?;
     push_inked(lines, shown.name, Ink::Error, color)?;
     let times = shown.times;
@@ -255,7 +255,7 @@ pub(crate) fn push_more(
 
 /// Adds the file of a stop and the place in it, with a colon if the stop is of a file.
 fn push_stop_file(line: &mut String, shown: &StopShown<'_>) -> Result<(), AllocError> {
-    push_text(line, shown.path)?;
+    push_location(line, shown.path)?;
     push_stop_place(line, shown)?;
     if shown.path.is_empty() {
         return Ok(());
@@ -278,7 +278,7 @@ fn push_pointer(line: &mut String, pointer: &str) -> Result<(), AllocError> {
     if pointer.is_empty() {
         return Ok(());
     }
-    push_text(line, pointer)?;
+    push_location(line, pointer)?;
     line.push_str(": ")
 }
 
@@ -307,7 +307,7 @@ fn push_table(
     rows: Option<u64>,
 ) -> Result<(), AllocError> {
     write!(lines, "table {number}: ")?;
-    push_text(lines, path)?;
+    push_location(lines, path)?;
     match rows {
         Some(1) => lines.push_str(": 1 record\n"),
         Some(rows) => write!(lines, ": {rows} records\n"),

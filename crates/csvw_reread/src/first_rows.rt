@@ -1,7 +1,7 @@
 //! Rows that repeat a primary key, and where in the file the first rows with their keys are (Metadata Vocabulary for
 //! Tabular Data, section 5.5.1).
 
-use csvw_page::push_text;
+use csvw_page::push_location;
 use std::alloc::{AllocError, Global};
 
 /// A row that repeats the primary key of an earlier row.
@@ -136,7 +136,7 @@ impl FirstRows {
         };
         let FirstRow { line, number, .. } = row;
         text.push_str("    the first row with this key: ")?;
-        push_text(text, path)?;
+        push_location(text, path)?;
         write!(text, ":{line} (row {number})\n")
     }
 }
