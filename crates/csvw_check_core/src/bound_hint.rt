@@ -70,6 +70,11 @@ const DOUBLE: &str =
 /// Bounds of values without an order.
 const UNORDERED: &str = "    the values of this datatype have no order: leave the bound out\n";
 
+/// Facets that can't hold together.
+const CONTRADICTION: &str =
+    "    the facets contradict each other: the lower bound is above the upper one, one side has two bounds, two bounds have no order, \
+     or the lengths exclude each other\n";
+
 /// Returns the pointer of the datatype whose bound a pointer is that of, if it is one.
 fn datatype_of(pointer: &str) -> Option<&str> {
     for bound in &BOUNDS {
@@ -161,6 +166,15 @@ fn text_hint(
         None => Some(written(simple)),
         Some(_) => None,
     })
+}
+
+/// Returns what helps with the fault of a datatype: its facets can't hold together.
+pub(crate) fn facets_hint(document: &Value, code: MetaCode, pointer: &str) -> Option<&'static str> {
+    let is_datatype = pointer.ends_with("/datatype") && code == MetaCode::BadDatatype;
+    match document.pointer(pointer) {
+        Some(value) if is_datatype && value.is_object() => Some(CONTRADICTION),
+        _ => None,
+    }
 }
 
 /// Returns what helps with the fault at a pointer, if it is that of a bound which is no value of its datatype, or a number in place

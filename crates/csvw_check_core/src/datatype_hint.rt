@@ -1,6 +1,6 @@
 //! What to write in place of a datatype that isn't supported (Metadata Vocabulary for Tabular Data, section 5.11.1).
 
-use crate::bound_hint::bound_hint;
+use crate::bound_hint::{bound_hint, facets_hint};
 use crate::format_hint::format_hint;
 use crate::near::near_name;
 use csvw_datatype::Simple;
@@ -130,7 +130,8 @@ pub(crate) fn push_datatype_hint(
     if let Some(name) = name_at(&document, fault.code, pointer) {
         return push_instead(hints, name);
     }
-    match format_hint(&document, fault.code, pointer) {
+    let hint = format_hint(&document, fault.code, pointer);
+    match hint.or(facets_hint(&document, fault.code, pointer)) {
         Some(hint) => hints.push_str(hint),
         None => push_bound_hint(hints, alloc, bytes, fault),
     }

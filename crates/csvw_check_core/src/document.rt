@@ -5,6 +5,7 @@ ghost use Rattle.csvw_columns.specs.Ready.{AreReady};
 use crate::datatype_hint::{push_bound_hint, push_datatype_hint};
 use crate::expected::{JsonEnd, push_expected};
 use crate::missing::push_missing;
+use crate::reference_hint::{push_profile_hint, push_reference_hint};
 use crate::refused::{Refused, tell_all};
 use crate::resource_hint::push_resource_hint;
 use csvw_columns::Plan;
@@ -12,7 +13,7 @@ use csvw_files::{Opener, read_document};
 use csvw_hints::{Group, line_and_column, place_of, push_disguise};
 use csvw_meta::document::own_url;
 use csvw_meta::{Description, MetaCode, MetaFault, Profile, ReadDescription};
-use csvw_page::{Halt, Page, StopShown, Summary, push_text};
+use csvw_page::{Halt, Page, StopShown, Summary, push_location};
 use csvw_streams::Counted;
 use serde_json::Value;
 use std::alloc::{AllocError, Global};
@@ -106,7 +107,7 @@ fn push_relative(hints: &mut String, alloc: Global, base: &str) -> Result<(), Al
         return hints.push_str(RELATIVE_RESOURCE);
     }
     hints.push_str("    ")?;
-    push_text(hints, base)?;
+    push_location(hints, base)?;
     hints.push_str(" isn't absolute: write `--base http://example.org/metadata.json`\n")
 }
 
@@ -136,6 +137,7 @@ fn push_document_hints(
     if told.place.0 > 0 {
         push_resource_hint(hints, without_bom(bytes), fault)?;
     }
+    push_profile_hint(hints, fault)?;
     match fault.code {
         _ if !hints.is_empty() => Ok(()),
         MetaCode::NotJson if told.place.0 == 0 => Ok(()),
@@ -143,6 +145,7 @@ fn push_document_hints(
         MetaCode::NotSupported | MetaCode::BadDatatype => {
             push_datatype_hint(hints, alloc, without_bom(bytes), fault)
         }
+        MetaCode::BadReference => push_reference_hint(hints, alloc, without_bom(bytes), fault),
         MetaCode::BadProperty => push_property_hints(hints, alloc, without_bom(bytes), fault),
         MetaCode::BadUrl if fault.pointer.is_empty() => push_relative(hints, alloc, group.base),
         MetaCode::Memory => hints.push_str(EXPRESSION_TOO_LARGE),
@@ -278,7 +281,7 @@ pub(crate) fn tell_table_count(
     for table in plan.tables() {
         let number = table.number;
         write!(hints, "  table {number}: ")?;
-        push_text(&mut hints, table.url.iri().as_str())?;
+        push_location(&mut hints, table.url.iri().as_str())?;
         hints.push('\n')?;
     }
     let sentence = format!(in page.alloc;

@@ -23,6 +23,7 @@ mod format_hint;
 mod missing;
 mod near;
 mod objects;
+mod reference_hint;
 mod refused;
 mod report;
 mod resource_hint;

@@ -7,6 +7,9 @@ use csvw_datatype_core::{
 };
 use std::alloc::{AllocError, Global};
 
+/// A moment without a zone.
+const NO_ZONE: &str = "    the text has no zone: a moment without a zone is a dateTime\n";
+
 /// Returns the same format with the month first, if a format has the day first.
 fn month_first(format: DateFormat) -> Option<DateFormat> {
     match format {
@@ -125,14 +128,13 @@ fn push_pattern(below: &mut String, format: StampFormat) -> Result<(), AllocErro
     below.push_str("\"`")
 }
 
-/// Adds the formats of the profile w3c by which a text is a moment, of which this is the first.
-fn push_stamps(
+/// Adds the formats by which a text is a moment, of which this is the first.
+fn push_patterns(
     below: &mut String,
     alloc: Global,
     text: &str,
     format: StampFormat,
 ) -> Result<(), AllocError> {
-    below.push_str("    the text is a dateTime with `--profile w3c` and ")?;
     push_pattern(below, format)?;
     if let Some(other) = stamp_month_first(format) {
         if is_stamp(alloc, text, other)? {
@@ -146,8 +148,38 @@ fn push_stamps(
 /// Adds the formats of the profile w3c by which a text is a moment, if it is one.
 fn push_stamp(below: &mut String, alloc: Global, text: &str) -> Result<(), AllocError> {
     match stamp_format(text) {
-        Some(format) if is_stamp(alloc, text, format)? => push_stamps(below, alloc, text, format),
+        Some(format) if is_stamp(alloc, text, format)? => {
+            below.push_str("    the text is a dateTime with `--profile w3c` and ")?;
+            push_patterns(below, alloc, text, format)
+        }
         _ => Ok(()),
+    }
+}
+
+/// Adds the formats by which a text is a moment with a zone, if it is one, or that its zone is missing.
+fn push_zoned_stamp(below: &mut String, alloc: Global, text: &str) -> Result<(), AllocError> {
+    let Some(format) = stamp_format(text) else {
+        return Ok(());
+    };
+    if !is_stamp(alloc, text, format)? {
+        return Ok(());
+    }
+    match format.zone {
+        Some(_) => {
+            below.push_str("    the text is a dateTimeStamp with ")?;
+            push_patterns(below, alloc, text, format)
+        }
+        None => below.push_str(NO_ZONE),
+    }
+}
+
+/// Adds the formats by which a text is a moment with a zone, or that its zone is missing.
+pub(crate) fn push_zoned(below: &mut String, alloc: Global, text: &str) -> Result<(), AllocError> {
+    match read_date_time(alloc, Zone::Required, text)? {
+        Some(_) => {
+            below.push_str("    the text is a dateTimeStamp, if the datatype has no `format`\n")
+        }
+        None => push_zoned_stamp(below, alloc, text),
     }
 }
 

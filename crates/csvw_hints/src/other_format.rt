@@ -1,6 +1,6 @@
 //! The format in which a text is a value, if it is none of its datatype as the document says.
 
-use crate::other_date::{push_date, push_moment};
+use crate::other_date::{push_date, push_moment, push_zoned};
 use crate::other_number::{push_decimal, push_double, push_integer};
 use crate::other_time::push_time;
 use crate::tables::{TableAt, declared};
@@ -74,10 +74,10 @@ pub fn push_other_format(
         Simple::Decimal => push_decimal(below, alloc, text),
         Simple::Floating(_) => push_double(below, alloc, text),
         Simple::Day => push_date(below, text),
-        // these lines say `dateTime`, and most of their formats have no zone, which a `dateTimeStamp` needs
         Simple::Moment | Simple::Other(TextType::DateTime(Zone::Optional)) => {
             push_moment(below, alloc, text)
         }
+        Simple::Other(TextType::DateTime(Zone::Required)) => push_zoned(below, alloc, text),
         Simple::Other(TextType::Time) => push_time(below, text),
         Simple::Text | Simple::Uri | Simple::Other(_) => Ok(()),
     }
