@@ -25,6 +25,8 @@ mod expressions;
 #[cfg(test)]
 mod facets;
 #[cfg(test)]
+mod keys;
+#[cfg(test)]
 mod moments;
 #[cfg(test)]
 mod nulls;
