@@ -128,7 +128,7 @@ not valid
 "#;
 
 /// The words that check a group of one table.
-const CHECK: &[&str] = &["csvw", "check", "--profile", "w3c", "m.json", "p.csv"];
+const CHECK: &str = "csvw check --profile w3c m.json p.csv";
 
 static BOUNDS: [Case; 2] = [
     Case {

@@ -3,14 +3,7 @@
 use crate::runs::Sent::{Just, SomeText};
 use crate::runs::{Case, End, File, META, each_ends_so};
 
-const CHECK: &[&str] = &[
-    "csvw",
-    "check",
-    "--base",
-    "http://example.org/",
-    "m.json",
-    "p.csv",
-];
+const CHECK: &str = "csvw check --base http://example.org/ m.json p.csv";
 
 const TYPED: &[u8] =
     br#"{"@context":"http://www.w3.org/ns/csvw","url":"p.csv","tableSchema":{"columns":[{"name":"id","required":true},{"name":"n","datatype":"integer"}]}}"#;
@@ -92,6 +85,7 @@ const FOUR_FAULTS: &[u8] =
 m.json:3:1: /url: BadProperty: a value is of a wrong kind, or a property is missing
 m.json:4:40: /tableSchema/columns/1: DuplicateName: two columns of a table have one name: rename one of them
 m.json:5:1: /tableSchema/primaryKey: BadReference: a key names a column or a table that is not there
+    the table has no column with the name \"b\": the columns of the table are \"a\", \"a\"
 ";
 
 /// A document with a misspelled property and a fault.
@@ -228,7 +222,7 @@ m.json:1:1: BadProperty: a value is of a wrong kind, or a property is missing
     },
     Case {
         what: "a file beside the document that isn't there",
-        words: &["csvw", "check", "m.json"],
+        words: "csvw check m.json",
         files: &[File {
             path: "m.json",
             bytes: META,
@@ -249,7 +243,7 @@ fn groups_are_checked(rt: HostRuntime) {
 static EXPLANATIONS: [Case; 3] = [
     Case {
         what: "all codes",
-        words: &["csvw", "explain"],
+        words: "csvw explain",
         files: &[],
         end: End {
             status: 0,
@@ -259,7 +253,7 @@ static EXPLANATIONS: [Case; 3] = [
     },
     Case {
         what: "a code",
-        words: &["csvw", "explain", "Write"],
+        words: "csvw explain Write",
         files: &[],
         end: End {
             status: 0,
@@ -271,7 +265,7 @@ static EXPLANATIONS: [Case; 3] = [
     },
     Case {
         what: "a code that there isn't",
-        words: &["csvw", "explain", "Nothing"],
+        words: "csvw explain Nothing",
         files: &[],
         end: End {
             status: 2,

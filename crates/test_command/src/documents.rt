@@ -44,7 +44,7 @@ static REFUSALS: [Refusal; 6] = [
 ];
 
 /// Returns whether a run of these words over a document and a table with this text ends like this.
-fn ends(alloc: Global, words: &[&str], meta: &[u8], text: &[u8], end: End) -> bool {
+fn ends(alloc: Global, words: &str, meta: &[u8], text: &[u8], end: End) -> bool {
     let files = [
         File {
             path: "m.json",
@@ -125,7 +125,7 @@ static NO_JSON: [Refusal; 12] = [
 ];
 
 /// Documents that are refused, each with what `csvw check` says and what helps.
-static HELPED: [Refusal; 17] = [
+static HELPED: [Refusal; 18] = [
     Refusal {
         meta: b"{\"@context\":\"http://www.w3.org/ns/csvw\",\"url\":\"p.csv\",\"tableSchema\":{\"columns\":[{\"name\":\"a\",\"datatype\":{\"base\":\"decimal\",\n\"format\":\"#,##0.00\"}}]}}",
         line: b"m.json:2:1: /tableSchema/columns/0/datatype/format: NotSupported: this part of the vocabulary is not supported: leave it out\n    a pattern of numbers needs the profile w3c (`--profile w3c`), and has `0`, `#`, `+`, `%`, `\xe2\x80\xb0`, the decimal and the group character alone\n",
@@ -191,20 +191,17 @@ static HELPED: [Refusal; 17] = [
         line: b"m.json:2:1: /tableSchema/columns/0/datatype/minExclusive: BadDatatype: the datatype cannot have this format or these facets\n    a bound is a moment as \"2020-01-31T08:30:00\", whatever the format is; with `--profile w3c` also as \"2020-01-31T08:30:00.5Z\"\n",
     },
     Refusal {
+        meta: b"{\"@context\":\"http://www.w3.org/ns/csvw\",\"url\":\"p.csv\",\"tableSchema\":{\"columns\":[{\"name\":\"a\",\n\"datatype\":{\"base\":\"integer\",\"minimum\":2,\"maximum\":1}}]}}",
+        line: b"m.json:2:1: /tableSchema/columns/0/datatype: BadDatatype: the datatype cannot have this format or these facets\n    the facets contradict each other: the lower bound is above the upper one, one side has two bounds, two bounds have no order, or the lengths exclude each other\n",
+    },
+    Refusal {
         meta: b"{\"@context\":\"http://www.w3.org/ns/csvw\",\"url\":\"p.csv\",\"tableSchema\":{\"columns\":[{\"name\":\"a\",\"datatype\":{\n\"maxExclusive\":\"b\"}}]}}",
         line: b"m.json:2:1: /tableSchema/columns/0/datatype/maxExclusive: BadDatatype: the datatype cannot have this format or these facets\n    the values of this datatype have no order: leave the bound out\n",
     },
 ];
 
 /// The words that check a group of one table.
-const CHECK: &[&str] = &[
-    "csvw",
-    "check",
-    "--base",
-    "http://example.org/",
-    "m.json",
-    "p.csv",
-];
+const CHECK: &str = "csvw check --base http://example.org/ m.json p.csv";
 
 #[test]
 fn a_document_that_is_refused_is_told_with_what_helps(rt: HostRuntime) {

@@ -157,15 +157,7 @@ const TWICE_FILES: &[File<'static>] = &[
 static CASES: [Case; 6] = [
     Case {
         what: "a valid group of two tables",
-        words: &[
-            "csvw",
-            "validate",
-            "--base",
-            "http://example.org/rivers/metadata.json",
-            "metadata.json",
-            "stations.csv",
-            "levels.csv",
-        ],
+        words: "csvw validate --base http://example.org/rivers/metadata.json metadata.json stations.csv levels.csv",
         files: RIVERS_FILES,
         end: End {
             status: 0,
@@ -175,16 +167,7 @@ static CASES: [Case; 6] = [
     },
     Case {
         what: "the graph of two tables",
-        words: &[
-            "csvw",
-            "convert",
-            "--minimal",
-            "--base",
-            "http://example.org/rivers/metadata.json",
-            "metadata.json",
-            "stations.csv",
-            "levels.csv",
-        ],
+        words: "csvw convert --minimal --base http://example.org/rivers/metadata.json metadata.json stations.csv levels.csv",
         files: RIVERS_FILES,
         end: End {
             status: 0,
@@ -194,14 +177,7 @@ static CASES: [Case; 6] = [
     },
     Case {
         what: "faults in a header and in cells",
-        words: &[
-            "csvw",
-            "validate",
-            "--base",
-            "http://example.org/libraries/metadata.json",
-            "metadata.json",
-            "libraries.csv",
-        ],
+        words: "csvw validate --base http://example.org/libraries/metadata.json metadata.json libraries.csv",
         files: LIBRARIES_FILES,
         end: End {
             status: 1,
@@ -211,15 +187,7 @@ static CASES: [Case; 6] = [
     },
     Case {
         what: "the graph of a table with faults",
-        words: &[
-            "csvw",
-            "convert",
-            "--minimal",
-            "--base",
-            "http://example.org/libraries/metadata.json",
-            "metadata.json",
-            "libraries.csv",
-        ],
+        words: "csvw convert --minimal --base http://example.org/libraries/metadata.json metadata.json libraries.csv",
         files: LIBRARIES_FILES,
         end: End {
             status: 1,
@@ -229,14 +197,7 @@ static CASES: [Case; 6] = [
     },
     Case {
         what: "a document that names one table twice, validated",
-        words: &[
-            "csvw",
-            "validate",
-            "--base",
-            "http://example.org/twice/metadata.json",
-            "metadata.json",
-            "prices.csv",
-        ],
+        words: "csvw validate --base http://example.org/twice/metadata.json metadata.json prices.csv",
         files: TWICE_FILES,
         end: End {
             status: 3,
@@ -246,15 +207,7 @@ static CASES: [Case; 6] = [
     },
     Case {
         what: "a document that names one table twice, converted",
-        words: &[
-            "csvw",
-            "convert",
-            "--minimal",
-            "--base",
-            "http://example.org/twice/metadata.json",
-            "metadata.json",
-            "prices.csv",
-        ],
+        words: "csvw convert --minimal --base http://example.org/twice/metadata.json metadata.json prices.csv",
         files: TWICE_FILES,
         end: End {
             status: 3,

@@ -4,13 +4,7 @@ use crate::runs::Sent::{Just, SomeText};
 use crate::runs::{Case, End, File, HEADING, each_ends_so};
 
 /// The words that convert one table without a document, and explain a stop.
-const PLAIN: &[&str] = &[
-    "csvw",
-    "plain",
-    "--explain",
-    "http://example.org/p.csv",
-    "p.csv",
-];
+const PLAIN: &str = "csvw plain --explain http://example.org/p.csv p.csv";
 
 static TABLES: [Case; 10] = [
     Case {
@@ -27,7 +21,7 @@ static TABLES: [Case; 10] = [
     },
     Case {
         what: "a file that is missing",
-        words: &["csvw", "plain", "http://example.org/p.csv", "p.csv"],
+        words: "csvw plain http://example.org/p.csv p.csv",
         files: &[],
         end: End {
             status: 4,
@@ -37,7 +31,7 @@ static TABLES: [Case; 10] = [
     },
     Case {
         what: "a file that is missing and a URL that is none, explained",
-        words: &["csvw", "plain", "--explain", "p.csv", "p.csv"],
+        words: "csvw plain --explain p.csv p.csv",
         files: &[],
         end: End {
             status: 4,
@@ -49,7 +43,7 @@ static TABLES: [Case; 10] = [
     },
     Case {
         what: "a URL that is none, explained",
-        words: &["csvw", "plain", "--explain", "p.csv", "p.csv"],
+        words: "csvw plain --explain p.csv p.csv",
         files: &[File {
             path: "p.csv",
             bytes: b"a\n1\n",
@@ -173,7 +167,7 @@ const DOCUMENTS: &[File<'static>] = &[
 static LOOKS: [Case; 8] = [
     Case {
         what: "a document that is missing, explained",
-        words: &["csvw", "inspect", "--explain", "m.json"],
+        words: "csvw inspect --explain m.json",
         files: DOCUMENTS,
         end: End {
             status: 4,
@@ -185,7 +179,7 @@ static LOOKS: [Case; 8] = [
     },
     Case {
         what: "a document that is missing",
-        words: &["csvw", "inspect", "m.json"],
+        words: "csvw inspect m.json",
         files: DOCUMENTS,
         end: End {
             status: 4,
@@ -195,7 +189,7 @@ static LOOKS: [Case; 8] = [
     },
     Case {
         what: "a document that isn't JSON, explained",
-        words: &["csvw", "inspect", "--explain", "text.json"],
+        words: "csvw inspect --explain text.json",
         files: DOCUMENTS,
         end: End {
             status: 3,
@@ -205,14 +199,7 @@ static LOOKS: [Case; 8] = [
     },
     Case {
         what: "a document with two faults, explained",
-        words: &[
-            "csvw",
-            "inspect",
-            "--explain",
-            "--base",
-            "http://example.org/faulty.json",
-            "faulty.json",
-        ],
+        words: "csvw inspect --explain --base http://example.org/faulty.json faulty.json",
         files: DOCUMENTS,
         end: End {
             status: 3,
@@ -222,13 +209,7 @@ static LOOKS: [Case; 8] = [
     },
     Case {
         what: "a document with two faults",
-        words: &[
-            "csvw",
-            "inspect",
-            "--base",
-            "http://example.org/faulty.json",
-            "faulty.json",
-        ],
+        words: "csvw inspect --base http://example.org/faulty.json faulty.json",
         files: DOCUMENTS,
         end: End {
             status: 3,
@@ -238,7 +219,7 @@ static LOOKS: [Case; 8] = [
     },
     Case {
         what: "a document in another profile, explained",
-        words: &["csvw", "inspect", "--explain", "typed.json"],
+        words: "csvw inspect --explain typed.json",
         files: DOCUMENTS,
         end: End {
             status: 3,
@@ -248,14 +229,7 @@ static LOOKS: [Case; 8] = [
     },
     Case {
         what: "a base that isn't absolute, explained",
-        words: &[
-            "csvw",
-            "inspect",
-            "--explain",
-            "--base",
-            "sound.json",
-            "sound.json",
-        ],
+        words: "csvw inspect --explain --base sound.json sound.json",
         files: DOCUMENTS,
         end: End {
             status: 3,
@@ -265,7 +239,7 @@ static LOOKS: [Case; 8] = [
     },
     Case {
         what: "a document without a fault has nothing to explain",
-        words: &["csvw", "inspect", "--explain", "sound.json"],
+        words: "csvw inspect --explain sound.json",
         files: DOCUMENTS,
         end: End {
             status: 0,
@@ -301,16 +275,7 @@ b.csv:2: RaggedRow: the row doesn't have one field for each column: add or remov
 
 static GROUPS: [Case; 1] = [Case {
     what: "files that are swapped, explained",
-    words: &[
-        "csvw",
-        "validate",
-        "--explain",
-        "--base",
-        "http://example.org/",
-        "m.json",
-        "b.csv",
-        "a.csv",
-    ],
+    words: "csvw validate --explain --base http://example.org/ m.json b.csv a.csv",
     files: PAIR,
     end: End {
         status: 3,

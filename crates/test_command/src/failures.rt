@@ -32,32 +32,17 @@ _:t1 <http://www.w3.org/ns/csvw#url> <http://example.org/p.csv> .
 ";
 
 /// The words that convert a group of one table in standard mode.
-const STANDARD: &[&str] = &[
-    "csvw",
-    "convert",
-    "--base",
-    "http://example.org/",
-    "m.json",
-    "p.csv",
-];
+const STANDARD: &str = "csvw convert --base http://example.org/ m.json p.csv";
 
 /// The words that convert a group of one table in standard mode, with its tables read in turn.
-const TURNS: &[&str] = &[
-    "csvw",
-    "convert",
-    "--turns",
-    "--base",
-    "http://example.org/",
-    "m.json",
-    "p.csv",
-];
+const TURNS: &str = "csvw convert --turns --base http://example.org/ m.json p.csv";
 
 /// A run in which a read fails.
 struct Broken {
     /// What the case shows.
     what: &'static str,
     /// The words of the command line.
-    words: &'static [&'static str],
+    words: &'static str,
     /// The path of the file whose reader fails.
     path: &'static str,
     /// How many of its reads don't fail.
@@ -191,53 +176,23 @@ fn the_status_is_all_if_standard_error_fails(rt: HostRuntime) {
 }
 
 /// Words that name files, and how many of these can be opened before one that is missing.
-static MISSING: [(&[&str], u64, u64); 4] = [
+static MISSING: [(&str, u64, u64); 4] = [
+    ("csvw plain http://example.org/p.csv q.csv", 0, 0),
     (
-        &["csvw", "plain", "http://example.org/p.csv", "q.csv"],
+        "csvw validate --base http://example.org/ n.json p.csv",
         0,
         0,
     ),
+    ("csvw convert --base http://example.org/ m.json q.csv", 1, 1),
     (
-        &[
-            "csvw",
-            "validate",
-            "--base",
-            "http://example.org/",
-            "n.json",
-            "p.csv",
-        ],
-        0,
-        0,
-    ),
-    (
-        &[
-            "csvw",
-            "convert",
-            "--base",
-            "http://example.org/",
-            "m.json",
-            "q.csv",
-        ],
-        1,
-        1,
-    ),
-    (
-        &[
-            "csvw",
-            "convert",
-            "--base",
-            "http://example.org/",
-            "m.json",
-            "p.csv",
-            "q.csv",
-        ],
+        "csvw convert --base http://example.org/ m.json p.csv q.csv",
         2,
         1,
     ),
 ];
 
 /// Returns whether a run stops at a file that is missing. Only readers of tables before that file don't come back.
-fn misses(alloc: Global, words: &[&str], opened: u64, closed: u64) -> bool {
+fn misses(alloc: Global, words: &str, opened: u64, closed: u64) -> bool {
     let mut opener = Files::new(&FILES);
     ends_by(alloc, words, &mut opener, read_end(b""))
         && opener.opened == opened

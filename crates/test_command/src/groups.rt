@@ -57,14 +57,7 @@ static ENDS: [Case; 5] = [
     },
     Case {
         what: "a graph in standard mode, where no mode is named",
-        words: &[
-            "csvw",
-            "convert",
-            "--base",
-            "http://example.org/",
-            "m.json",
-            "p.csv",
-        ],
+        words: "csvw convert --base http://example.org/ m.json p.csv",
         files: &[
             File {
                 path: "m.json",
@@ -200,15 +193,7 @@ static STOPS: [Case; 9] = [
     },
     Case {
         what: "two files for one table",
-        words: &[
-            "csvw",
-            "validate",
-            "--base",
-            "http://example.org/",
-            "m.json",
-            "p.csv",
-            "p.csv",
-        ],
+        words: "csvw validate --base http://example.org/ m.json p.csv p.csv",
         files: &[
             File {
                 path: "m.json",

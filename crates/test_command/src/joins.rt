@@ -4,10 +4,10 @@ use crate::runs::Sent::Just;
 use crate::runs::{Case, End, File, HEADING, each_ends_so};
 
 /// The words that join two reports.
-const REPORT: &[&str] = &["csvw", "report", "1.csv", "2.csv"];
+const REPORT: &str = "csvw report 1.csv 2.csv";
 
 /// The words that judge records.
-const KEYS: &[&str] = &["csvw", "keys", "--base", "http://example.org/", "m.json"];
+const KEYS: &str = "csvw keys --base http://example.org/ m.json";
 
 /// A report with the faults of a first part.
 const FIRST: File<'static> = File {
@@ -231,7 +231,7 @@ static JUDGED: [Case; 7] = [
     },
     Case {
         what: "standard input twice",
-        words: &["csvw", "keys", "--base", "http://example.org/", "-"],
+        words: "csvw keys --base http://example.org/ -",
         files: &[],
         end: End {
             status: 2,

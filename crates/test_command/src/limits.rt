@@ -187,8 +187,11 @@ fn table_at_ends_so(alloc: Global, url: &[u8], end: End) -> bool {
         path: "p.csv",
         bytes: b"a\n1\n",
     }];
-    match str::from_utf8(url) {
-        Ok(url) => ends_so(alloc, &["csvw", "plain", url, "p.csv"], &files, end),
+    let Ok(url) = str::from_utf8(url) else {
+        return false;
+    };
+    match format!(in alloc; "csvw plain {url} p.csv") {
+        Ok(words) => ends_so(alloc, words.as_str(), &files, end),
         Err(_) => false,
     }
 }

@@ -143,7 +143,7 @@ static STOPS: [Case; 8] = [
     },
     Case {
         what: "a URL that is none",
-        words: &["csvw", "plain", "p.csv", "p.csv"],
+        words: "csvw plain p.csv p.csv",
         files: &[File {
             path: "p.csv",
             bytes: b"a\n1\n",
@@ -156,7 +156,7 @@ static STOPS: [Case; 8] = [
     },
     Case {
         what: "a file that is missing",
-        words: &["csvw", "plain", "http://example.org/p.csv", "missing.csv"],
+        words: "csvw plain http://example.org/p.csv missing.csv",
         files: &[],
         end: End {
             status: 4,

@@ -152,6 +152,7 @@ p.csv:3 (row 2), column 2 "s": BadDateTime: "2020-01-31T08:30:00": the text is n
     2020-01-31,2020-01-31T08:30:00
                ^^^^^^^^^^^^^^^^^^^
     datatype dateTimeStamp: with a zone, as in 2020-01-31T08:30:00Z
+    the text has no zone: a moment without a zone is a dateTime
 table 1: p.csv: 3 records
   BadDateTime: 1 in table 1, column 1
   BadDateTime: 1 in table 1, column 2
@@ -167,16 +168,7 @@ const NO_STAMPS: &[u8] =
 static PROFILES: [Case; 18] = [
     Case {
         what: "w3c, validated",
-        words: &[
-            "csvw",
-            "validate",
-            "--profile",
-            "w3c",
-            "--base",
-            "http://example.org/",
-            "m.json",
-            "p.csv",
-        ],
+        words: "csvw validate --profile w3c --base http://example.org/ m.json p.csv",
         files: TYPED,
         end: End {
             status: 0,
@@ -186,17 +178,7 @@ static PROFILES: [Case; 18] = [
     },
     Case {
         what: "w3c, converted",
-        words: &[
-            "csvw",
-            "convert",
-            "--minimal",
-            "--profile",
-            "w3c",
-            "--base",
-            "http://example.org/",
-            "m.json",
-            "p.csv",
-        ],
+        words: "csvw convert --minimal --profile w3c --base http://example.org/ m.json p.csv",
         files: TYPED,
         end: End {
             status: 0,
@@ -206,18 +188,7 @@ static PROFILES: [Case; 18] = [
     },
     Case {
         what: "w3c, converted in turns",
-        words: &[
-            "csvw",
-            "convert",
-            "--minimal",
-            "--turns",
-            "--profile",
-            "w3c",
-            "--base",
-            "http://example.org/",
-            "m.json",
-            "p.csv",
-        ],
+        words: "csvw convert --minimal --turns --profile w3c --base http://example.org/ m.json p.csv",
         files: TYPED,
         end: End {
             status: 0,
@@ -227,18 +198,7 @@ static PROFILES: [Case; 18] = [
     },
     Case {
         what: "w3c, with a report as JSON",
-        words: &[
-            "csvw",
-            "validate",
-            "--profile",
-            "w3c",
-            "--report",
-            "json",
-            "--base",
-            "http://example.org/",
-            "m.json",
-            "p.csv",
-        ],
+        words: "csvw validate --profile w3c --report json --base http://example.org/ m.json p.csv",
         files: TYPED,
         end: End {
             status: 0,
@@ -248,7 +208,7 @@ static PROFILES: [Case; 18] = [
     },
     Case {
         what: "w3c, checked",
-        words: &["csvw", "check", "--profile", "w3c", "m.json", "p.csv"],
+        words: "csvw check --profile w3c m.json p.csv",
         files: TYPED,
         end: End {
             status: 0,
@@ -258,7 +218,7 @@ static PROFILES: [Case; 18] = [
     },
     Case {
         what: "w3c, inspected",
-        words: &["csvw", "inspect", "--profile", "w3c", "m.json"],
+        words: "csvw inspect --profile w3c m.json",
         files: TYPED,
         end: End {
             status: 0,
@@ -268,7 +228,7 @@ static PROFILES: [Case; 18] = [
     },
     Case {
         what: "w3c, with texts that regular expressions don't describe",
-        words: &["csvw", "check", "--profile", "w3c", "m.json", "p.csv"],
+        words: "csvw check --profile w3c m.json p.csv",
         files: DESCRIBED,
         end: End {
             status: 1,
@@ -278,7 +238,7 @@ static PROFILES: [Case; 18] = [
     },
     Case {
         what: "w3c, with a text that is no regular expression",
-        words: &["csvw", "check", "--profile", "w3c", "m.json", "p.csv"],
+        words: "csvw check --profile w3c m.json p.csv",
         files: NO_EXPRESSION,
         end: End {
             status: 3,
@@ -288,7 +248,7 @@ static PROFILES: [Case; 18] = [
     },
     Case {
         what: "w3c, with texts that are no moments",
-        words: &["csvw", "check", "--profile", "w3c", "m.json", "p.csv"],
+        words: "csvw check --profile w3c m.json p.csv",
         files: ZONED,
         end: End {
             status: 1,
@@ -298,7 +258,7 @@ static PROFILES: [Case; 18] = [
     },
     Case {
         what: "no profile, with moments that have a zone",
-        words: &["csvw", "check", "m.json", "p.csv"],
+        words: "csvw check m.json p.csv",
         files: ZONED,
         end: End {
             status: 3,
@@ -328,7 +288,7 @@ static PROFILES: [Case; 18] = [
     },
     Case {
         what: "no profile, checked",
-        words: &["csvw", "check", "m.json", "p.csv"],
+        words: "csvw check m.json p.csv",
         files: TYPED,
         end: End {
             status: 3,
@@ -338,7 +298,7 @@ static PROFILES: [Case; 18] = [
     },
     Case {
         what: "no profile, inspected",
-        words: &["csvw", "inspect", "m.json"],
+        words: "csvw inspect m.json",
         files: TYPED,
         end: End {
             status: 3,
@@ -348,16 +308,7 @@ static PROFILES: [Case; 18] = [
     },
     Case {
         what: "core, validated",
-        words: &[
-            "csvw",
-            "validate",
-            "--profile",
-            "core",
-            "--base",
-            "http://example.org/",
-            "m.json",
-            "p.csv",
-        ],
+        words: "csvw validate --profile core --base http://example.org/ m.json p.csv",
         files: TYPED,
         end: End {
             status: 3,
@@ -367,17 +318,7 @@ static PROFILES: [Case; 18] = [
     },
     Case {
         what: "core, converted",
-        words: &[
-            "csvw",
-            "convert",
-            "--minimal",
-            "--profile",
-            "core",
-            "--base",
-            "http://example.org/",
-            "m.json",
-            "p.csv",
-        ],
+        words: "csvw convert --minimal --profile core --base http://example.org/ m.json p.csv",
         files: TYPED,
         end: End {
             status: 3,
@@ -387,7 +328,7 @@ static PROFILES: [Case; 18] = [
     },
     Case {
         what: "w3c, drafted",
-        words: &["csvw", "draft", "--profile", "w3c", "p.csv"],
+        words: "csvw draft --profile w3c p.csv",
         files: DRAFTED,
         end: End {
             status: 0,
@@ -397,7 +338,7 @@ static PROFILES: [Case; 18] = [
     },
     Case {
         what: "core, drafted",
-        words: &["csvw", "draft", "p.csv"],
+        words: "csvw draft p.csv",
         files: DRAFTED,
         end: End {
             status: 0,
@@ -415,16 +356,7 @@ const UNKNOWN: &[u8] = b"csvw: --profile takes core or w3c\n";
 static MISTAKES: [Case; 4] = [
     Case {
         what: "a profile that there is not, validated",
-        words: &[
-            "csvw",
-            "validate",
-            "--profile",
-            "xml",
-            "--base",
-            "http://example.org/",
-            "m.json",
-            "p.csv",
-        ],
+        words: "csvw validate --profile xml --base http://example.org/ m.json p.csv",
         files: &[],
         end: End {
             status: 2,
@@ -434,7 +366,7 @@ static MISTAKES: [Case; 4] = [
     },
     Case {
         what: "a profile that there is not, checked",
-        words: &["csvw", "check", "--profile", "W3C", "m.json"],
+        words: "csvw check --profile W3C m.json",
         files: &[],
         end: End {
             status: 2,
@@ -444,7 +376,7 @@ static MISTAKES: [Case; 4] = [
     },
     Case {
         what: "a profile that there is not, inspected",
-        words: &["csvw", "inspect", "--profile", "", "m.json"],
+        words: "csvw inspect --profile '' m.json",
         files: &[],
         end: End {
             status: 2,
@@ -454,7 +386,7 @@ static MISTAKES: [Case; 4] = [
     },
     Case {
         what: "a profile that there is not, drafted",
-        words: &["csvw", "draft", "p.csv", "--profile", "w3"],
+        words: "csvw draft p.csv --profile w3",
         files: &[],
         end: End {
             status: 2,

@@ -56,16 +56,7 @@ const WARNING: &[u8] = b"kind,code,table,row,column\nwarning,UnknownProperty,1,0
 static SHOWN: [Case; 6] = [
     Case {
         what: "a report as text, on standard output",
-        words: &[
-            "csvw",
-            "validate",
-            "--report",
-            "text",
-            "--base",
-            "http://example.org/",
-            "m.json",
-            "p.csv",
-        ],
+        words: "csvw validate --report text --base http://example.org/ m.json p.csv",
         files: WRONG,
         end: End {
             status: 1,
@@ -75,16 +66,7 @@ static SHOWN: [Case; 6] = [
     },
     Case {
         what: "a report as HTML",
-        words: &[
-            "csvw",
-            "validate",
-            "--report",
-            "html",
-            "--base",
-            "http://example.org/",
-            "m.json",
-            "p.csv",
-        ],
+        words: "csvw validate --report html --base http://example.org/ m.json p.csv",
         files: SOUND,
         end: End {
             status: 0,
@@ -94,17 +76,7 @@ static SHOWN: [Case; 6] = [
     },
     Case {
         what: "a graph beside a report as JSON",
-        words: &[
-            "csvw",
-            "convert",
-            "--minimal",
-            "--report",
-            "json",
-            "--base",
-            "http://example.org/",
-            "m.json",
-            "p.csv",
-        ],
+        words: "csvw convert --minimal --report json --base http://example.org/ m.json p.csv",
         files: WRONG,
         end: End {
             status: 1,
@@ -114,17 +86,7 @@ static SHOWN: [Case; 6] = [
     },
     Case {
         what: "a graph beside a report as text, with its stop",
-        words: &[
-            "csvw",
-            "convert",
-            "--minimal",
-            "--report",
-            "text",
-            "--base",
-            "http://example.org/",
-            "m.json",
-            "p.csv",
-        ],
+        words: "csvw convert --minimal --report text --base http://example.org/ m.json p.csv",
         files: RAGGED,
         end: End {
             status: 3,
@@ -134,16 +96,7 @@ static SHOWN: [Case; 6] = [
     },
     Case {
         what: "a report as CSV by its name",
-        words: &[
-            "csvw",
-            "validate",
-            "--report",
-            "csv",
-            "--base",
-            "http://example.org/",
-            "m.json",
-            "p.csv",
-        ],
+        words: "csvw validate --report csv --base http://example.org/ m.json p.csv",
         files: SOUND,
         end: End {
             status: 0,
@@ -153,15 +106,7 @@ static SHOWN: [Case; 6] = [
     },
     Case {
         what: "a stop that is explained",
-        words: &[
-            "csvw",
-            "validate",
-            "--explain",
-            "--base",
-            "http://example.org/",
-            "m.json",
-            "p.csv",
-        ],
+        words: "csvw validate --explain --base http://example.org/ m.json p.csv",
         files: RAGGED,
         end: End {
             status: 3,
@@ -174,15 +119,7 @@ static SHOWN: [Case; 6] = [
 static STRICT: [Case; 4] = [
     Case {
         what: "a warning that counts",
-        words: &[
-            "csvw",
-            "validate",
-            "--strict",
-            "--base",
-            "http://example.org/",
-            "m.json",
-            "p.csv",
-        ],
+        words: "csvw validate --strict --base http://example.org/ m.json p.csv",
         files: SOUND,
         end: End {
             status: 1,
@@ -192,14 +129,7 @@ static STRICT: [Case; 4] = [
     },
     Case {
         what: "a warning that doesn't count",
-        words: &[
-            "csvw",
-            "validate",
-            "--base",
-            "http://example.org/",
-            "m.json",
-            "p.csv",
-        ],
+        words: "csvw validate --base http://example.org/ m.json p.csv",
         files: SOUND,
         end: End {
             status: 0,
@@ -209,16 +139,7 @@ static STRICT: [Case; 4] = [
     },
     Case {
         what: "a warning that counts for a conversion",
-        words: &[
-            "csvw",
-            "convert",
-            "--minimal",
-            "--strict",
-            "--base",
-            "http://example.org/",
-            "m.json",
-            "p.csv",
-        ],
+        words: "csvw convert --minimal --strict --base http://example.org/ m.json p.csv",
         files: SOUND,
         end: End {
             status: 1,
@@ -228,7 +149,7 @@ static STRICT: [Case; 4] = [
     },
     Case {
         what: "a warning that counts for a check",
-        words: &["csvw", "check", "--strict", "m.json", "p.csv"],
+        words: "csvw check --strict m.json p.csv",
         files: SOUND,
         end: End {
             status: 1,
@@ -245,16 +166,7 @@ const REPORTING: &[u8] =
 static UNKNOWN: [Case; 4] = [
     Case {
         what: "a form that there is not",
-        words: &[
-            "csvw",
-            "validate",
-            "--report",
-            "xml",
-            "--base",
-            "http://example.org/",
-            "m.json",
-            "p.csv",
-        ],
+        words: "csvw validate --report xml --base http://example.org/ m.json p.csv",
         files: &[],
         end: End {
             status: 2,
@@ -264,7 +176,7 @@ static UNKNOWN: [Case; 4] = [
     },
     Case {
         what: "a check as CSV",
-        words: &["csvw", "check", "--report", "csv", "m.json"],
+        words: "csvw check --report csv m.json",
         files: &[],
         end: End {
             status: 2,
@@ -274,16 +186,7 @@ static UNKNOWN: [Case; 4] = [
     },
     Case {
         what: "a colour that there is not",
-        words: &[
-            "csvw",
-            "convert",
-            "--color",
-            "blue",
-            "--base",
-            "http://example.org/",
-            "m.json",
-            "p.csv",
-        ],
+        words: "csvw convert --color blue --base http://example.org/ m.json p.csv",
         files: &[],
         end: End {
             status: 2,
@@ -293,7 +196,7 @@ static UNKNOWN: [Case; 4] = [
     },
     Case {
         what: "a shell that there is not",
-        words: &["csvw", "completions", "tcsh"],
+        words: "csvw completions tcsh",
         files: &[],
         end: End {
             status: 2,
@@ -306,7 +209,7 @@ static UNKNOWN: [Case; 4] = [
 static TEXTS: [Case; 8] = [
     Case {
         what: "the completions of bash",
-        words: &["csvw", "completions", "bash"],
+        words: "csvw completions bash",
         files: &[],
         end: End {
             status: 0,
@@ -316,7 +219,7 @@ static TEXTS: [Case; 8] = [
     },
     Case {
         what: "the manual page",
-        words: &["csvw", "manual"],
+        words: "csvw manual",
         files: &[],
         end: End {
             status: 0,
@@ -326,7 +229,7 @@ static TEXTS: [Case; 8] = [
     },
     Case {
         what: "what a document says",
-        words: &["csvw", "inspect", "m.json"],
+        words: "csvw inspect m.json",
         files: SOUND,
         end: End {
             status: 0,
@@ -336,14 +239,7 @@ static TEXTS: [Case; 8] = [
     },
     Case {
         what: "what a document says, as JSON",
-        words: &[
-            "csvw",
-            "inspect",
-            "--json",
-            "--base",
-            "http://example.org/",
-            "m.json",
-        ],
+        words: "csvw inspect --json --base http://example.org/ m.json",
         files: SOUND,
         end: End {
             status: 0,
@@ -353,7 +249,7 @@ static TEXTS: [Case; 8] = [
     },
     Case {
         what: "a document that isn't there",
-        words: &["csvw", "inspect", "n.json"],
+        words: "csvw inspect n.json",
         files: SOUND,
         end: End {
             status: 4,
@@ -363,7 +259,7 @@ static TEXTS: [Case; 8] = [
     },
     Case {
         what: "a document that is no JSON",
-        words: &["csvw", "inspect", "p.csv"],
+        words: "csvw inspect p.csv",
         files: SOUND,
         end: End {
             status: 3,
@@ -373,7 +269,7 @@ static TEXTS: [Case; 8] = [
     },
     Case {
         what: "a draft for a table",
-        words: &["csvw", "draft", "p.csv"],
+        words: "csvw draft p.csv",
         files: SOUND,
         end: End {
             status: 0,
@@ -383,7 +279,7 @@ static TEXTS: [Case; 8] = [
     },
     Case {
         what: "a draft for a table that isn't there",
-        words: &["csvw", "draft", "q.csv"],
+        words: "csvw draft q.csv",
         files: SOUND,
         end: End {
             status: 4,

@@ -55,18 +55,7 @@ const RELATIVE: &[u8] = b"csvw: metadata BadUrl \n";
 static RUNS: [Case; 18] = [
     Case {
         what: "a resource, validated",
-        words: &[
-            "csvw",
-            "validate",
-            "--profile",
-            "w3c",
-            "--resource",
-            "http://example.org/s.json=x/s.json",
-            "--base",
-            "http://example.org/",
-            "m.json",
-            "p.csv",
-        ],
+        words: "csvw validate --profile w3c --resource http://example.org/s.json=x/s.json --base http://example.org/ m.json p.csv",
         files: LINKED,
         end: End {
             status: 0,
@@ -76,19 +65,7 @@ static RUNS: [Case; 18] = [
     },
     Case {
         what: "a resource, converted",
-        words: &[
-            "csvw",
-            "convert",
-            "--minimal",
-            "--profile",
-            "w3c",
-            "--resource",
-            "http://example.org/s.json=x/s.json",
-            "--base",
-            "http://example.org/",
-            "m.json",
-            "p.csv",
-        ],
+        words: "csvw convert --minimal --profile w3c --resource http://example.org/s.json=x/s.json --base http://example.org/ m.json p.csv",
         files: LINKED,
         end: End {
             status: 0,
@@ -98,18 +75,7 @@ static RUNS: [Case; 18] = [
     },
     Case {
         what: "a resource, in two words as one",
-        words: &[
-            "csvw",
-            "convert",
-            "--minimal",
-            "--profile",
-            "w3c",
-            "--resource=http://example.org/s.json=x/s.json",
-            "--base",
-            "http://example.org/",
-            "m.json",
-            "p.csv",
-        ],
+        words: "csvw convert --minimal --profile w3c --resource=http://example.org/s.json=x/s.json --base http://example.org/ m.json p.csv",
         files: LINKED,
         end: End {
             status: 0,
@@ -119,20 +85,7 @@ static RUNS: [Case; 18] = [
     },
     Case {
         what: "two resources, the second of which is used",
-        words: &[
-            "csvw",
-            "validate",
-            "--profile",
-            "w3c",
-            "--resource",
-            "http://example.org/t.json=p.csv",
-            "--resource",
-            "http://example.org/s.json=x/s.json",
-            "--base",
-            "http://example.org/",
-            "m.json",
-            "p.csv",
-        ],
+        words: "csvw validate --profile w3c --resource http://example.org/t.json=p.csv --resource http://example.org/s.json=x/s.json --base http://example.org/ m.json p.csv",
         files: LINKED,
         end: End {
             status: 0,
@@ -142,20 +95,7 @@ static RUNS: [Case; 18] = [
     },
     Case {
         what: "a resource, with a report as JSON",
-        words: &[
-            "csvw",
-            "validate",
-            "--report",
-            "json",
-            "--profile",
-            "w3c",
-            "--resource",
-            "http://example.org/s.json=x/s.json",
-            "--base",
-            "http://example.org/",
-            "m.json",
-            "p.csv",
-        ],
+        words: "csvw validate --report json --profile w3c --resource http://example.org/s.json=x/s.json --base http://example.org/ m.json p.csv",
         files: LINKED,
         end: End {
             status: 0,
@@ -165,18 +105,7 @@ static RUNS: [Case; 18] = [
     },
     Case {
         what: "a resource, checked",
-        words: &[
-            "csvw",
-            "check",
-            "--profile",
-            "w3c",
-            "--resource",
-            "http://example.org/s.json=x/s.json",
-            "--base",
-            "http://example.org/m.json",
-            "m.json",
-            "p.csv",
-        ],
+        words: "csvw check --profile w3c --resource http://example.org/s.json=x/s.json --base http://example.org/m.json m.json p.csv",
         files: LINKED,
         end: End {
             status: 0,
@@ -186,17 +115,7 @@ static RUNS: [Case; 18] = [
     },
     Case {
         what: "a resource, inspected",
-        words: &[
-            "csvw",
-            "inspect",
-            "--profile",
-            "w3c",
-            "--resource",
-            "http://example.org/s.json=x/s.json",
-            "--base",
-            "http://example.org/m.json",
-            "m.json",
-        ],
+        words: "csvw inspect --profile w3c --resource http://example.org/s.json=x/s.json --base http://example.org/m.json m.json",
         files: LINKED,
         end: End {
             status: 0,
@@ -206,20 +125,7 @@ static RUNS: [Case; 18] = [
     },
     Case {
         what: "a resource, split",
-        words: &[
-            "csvw",
-            "split",
-            "--parts",
-            "1",
-            "--profile",
-            "w3c",
-            "--resource",
-            "http://example.org/s.json=x/s.json",
-            "--base",
-            "http://example.org/",
-            "m.json",
-            "p.csv",
-        ],
+        words: "csvw split --parts 1 --profile w3c --resource http://example.org/s.json=x/s.json --base http://example.org/ m.json p.csv",
         files: LINKED,
         end: End {
             status: 0,
@@ -229,16 +135,7 @@ static RUNS: [Case; 18] = [
     },
     Case {
         what: "no resource",
-        words: &[
-            "csvw",
-            "validate",
-            "--profile",
-            "w3c",
-            "--base",
-            "http://example.org/",
-            "m.json",
-            "p.csv",
-        ],
+        words: "csvw validate --profile w3c --base http://example.org/ m.json p.csv",
         files: LINKED,
         end: End {
             status: 3,
@@ -248,18 +145,7 @@ static RUNS: [Case; 18] = [
     },
     Case {
         what: "a resource of another URL",
-        words: &[
-            "csvw",
-            "validate",
-            "--profile",
-            "w3c",
-            "--resource",
-            "http://example.org/x/s.json=x/s.json",
-            "--base",
-            "http://example.org/",
-            "m.json",
-            "p.csv",
-        ],
+        words: "csvw validate --profile w3c --resource http://example.org/x/s.json=x/s.json --base http://example.org/ m.json p.csv",
         files: LINKED,
         end: End {
             status: 3,
@@ -269,18 +155,7 @@ static RUNS: [Case; 18] = [
     },
     Case {
         what: "a resource that is no JSON",
-        words: &[
-            "csvw",
-            "validate",
-            "--profile",
-            "w3c",
-            "--resource",
-            "http://example.org/s.json=p.csv",
-            "--base",
-            "http://example.org/",
-            "m.json",
-            "p.csv",
-        ],
+        words: "csvw validate --profile w3c --resource http://example.org/s.json=p.csv --base http://example.org/ m.json p.csv",
         files: LINKED,
         end: End {
             status: 3,
@@ -290,18 +165,7 @@ static RUNS: [Case; 18] = [
     },
     Case {
         what: "a fault in a resource",
-        words: &[
-            "csvw",
-            "validate",
-            "--profile",
-            "w3c",
-            "--resource",
-            "http://example.org/s.json=wrong.json",
-            "--base",
-            "http://example.org/",
-            "m.json",
-            "p.csv",
-        ],
+        words: "csvw validate --profile w3c --resource http://example.org/s.json=wrong.json --base http://example.org/ m.json p.csv",
         files: LINKED,
         end: End {
             status: 3,
@@ -311,18 +175,7 @@ static RUNS: [Case; 18] = [
     },
     Case {
         what: "a fault in a resource, checked",
-        words: &[
-            "csvw",
-            "check",
-            "--profile",
-            "w3c",
-            "--resource",
-            "http://example.org/s.json=wrong.json",
-            "--base",
-            "http://example.org/m.json",
-            "m.json",
-            "p.csv",
-        ],
+        words: "csvw check --profile w3c --resource http://example.org/s.json=wrong.json --base http://example.org/m.json m.json p.csv",
         files: LINKED,
         end: End {
             status: 3,
@@ -332,14 +185,7 @@ static RUNS: [Case; 18] = [
     },
     Case {
         what: "no resource, checked",
-        words: &[
-            "csvw",
-            "check",
-            "--base",
-            "http://example.org/m.json",
-            "m.json",
-            "p.csv",
-        ],
+        words: "csvw check --base http://example.org/m.json m.json p.csv",
         files: LINKED,
         end: End {
             status: 3,
@@ -349,18 +195,7 @@ static RUNS: [Case; 18] = [
     },
     Case {
         what: "a resource that can't be read",
-        words: &[
-            "csvw",
-            "validate",
-            "--profile",
-            "w3c",
-            "--resource",
-            "http://example.org/s.json=none.json",
-            "--base",
-            "http://example.org/",
-            "m.json",
-            "p.csv",
-        ],
+        words: "csvw validate --profile w3c --resource http://example.org/s.json=none.json --base http://example.org/ m.json p.csv",
         files: LINKED,
         end: End {
             status: 4,
@@ -370,18 +205,7 @@ static RUNS: [Case; 18] = [
     },
     Case {
         what: "a resource that can't be read, checked",
-        words: &[
-            "csvw",
-            "check",
-            "--profile",
-            "w3c",
-            "--resource",
-            "http://example.org/s.json=none.json",
-            "--base",
-            "http://example.org/m.json",
-            "m.json",
-            "p.csv",
-        ],
+        words: "csvw check --profile w3c --resource http://example.org/s.json=none.json --base http://example.org/m.json m.json p.csv",
         files: LINKED,
         end: End {
             status: 4,
@@ -391,20 +215,7 @@ static RUNS: [Case; 18] = [
     },
     Case {
         what: "a resource that can't be read, split",
-        words: &[
-            "csvw",
-            "split",
-            "--parts",
-            "1",
-            "--profile",
-            "w3c",
-            "--resource",
-            "http://example.org/s.json=none.json",
-            "--base",
-            "http://example.org/",
-            "m.json",
-            "p.csv",
-        ],
+        words: "csvw split --parts 1 --profile w3c --resource http://example.org/s.json=none.json --base http://example.org/ m.json p.csv",
         files: LINKED,
         end: End {
             status: 4,
@@ -414,18 +225,7 @@ static RUNS: [Case; 18] = [
     },
     Case {
         what: "a resource whose URL isn't absolute",
-        words: &[
-            "csvw",
-            "validate",
-            "--profile",
-            "w3c",
-            "--resource",
-            "s.json=x/s.json",
-            "--base",
-            "http://example.org/",
-            "m.json",
-            "p.csv",
-        ],
+        words: "csvw validate --profile w3c --resource s.json=x/s.json --base http://example.org/ m.json p.csv",
         files: LINKED,
         end: End {
             status: 3,
@@ -438,18 +238,7 @@ static RUNS: [Case; 18] = [
 static MISTAKES: [Case; 6] = [
     Case {
         what: "a resource without a file",
-        words: &[
-            "csvw",
-            "validate",
-            "--profile",
-            "w3c",
-            "--resource",
-            "http://example.org/s.json",
-            "--base",
-            "http://example.org/",
-            "m.json",
-            "p.csv",
-        ],
+        words: "csvw validate --profile w3c --resource http://example.org/s.json --base http://example.org/ m.json p.csv",
         files: &[],
         end: End {
             status: 2,
@@ -459,15 +248,7 @@ static MISTAKES: [Case; 6] = [
     },
     Case {
         what: "a resource with an empty file",
-        words: &[
-            "csvw",
-            "check",
-            "--profile",
-            "w3c",
-            "--resource",
-            "http://example.org/s.json=",
-            "m.json",
-        ],
+        words: "csvw check --profile w3c --resource http://example.org/s.json= m.json",
         files: &[],
         end: End {
             status: 2,
@@ -477,15 +258,7 @@ static MISTAKES: [Case; 6] = [
     },
     Case {
         what: "a resource with an empty URL",
-        words: &[
-            "csvw",
-            "inspect",
-            "--profile",
-            "w3c",
-            "--resource",
-            "=s.json",
-            "m.json",
-        ],
+        words: "csvw inspect --profile w3c --resource =s.json m.json",
         files: &[],
         end: End {
             status: 2,
@@ -495,17 +268,7 @@ static MISTAKES: [Case; 6] = [
     },
     Case {
         what: "a resource on standard input",
-        words: &[
-            "csvw",
-            "keys",
-            "--profile",
-            "w3c",
-            "--resource",
-            "http://example.org/s.json=-",
-            "--base",
-            "http://example.org/",
-            "m.json",
-        ],
+        words: "csvw keys --profile w3c --resource http://example.org/s.json=- --base http://example.org/ m.json",
         files: &[],
         end: End {
             status: 2,
@@ -515,16 +278,7 @@ static MISTAKES: [Case; 6] = [
     },
     Case {
         what: "a resource without the profile",
-        words: &[
-            "csvw",
-            "validate",
-            "--resource",
-            "http://example.org/s.json=x/s.json",
-            "--base",
-            "http://example.org/",
-            "m.json",
-            "p.csv",
-        ],
+        words: "csvw validate --resource http://example.org/s.json=x/s.json --base http://example.org/ m.json p.csv",
         files: &[],
         end: End {
             status: 2,
@@ -534,18 +288,7 @@ static MISTAKES: [Case; 6] = [
     },
     Case {
         what: "a resource with the profile core",
-        words: &[
-            "csvw",
-            "convert",
-            "--profile",
-            "core",
-            "--resource",
-            "http://example.org/s.json=x/s.json",
-            "--base",
-            "http://example.org/",
-            "m.json",
-            "p.csv",
-        ],
+        words: "csvw convert --profile core --resource http://example.org/s.json=x/s.json --base http://example.org/ m.json p.csv",
         files: &[],
         end: End {
             status: 2,

@@ -16,28 +16,13 @@ pub(crate) const HEADING: &[u8] = b"kind,code,table,row,column\n";
 pub(crate) const META: &[u8] = br#"{"@context":"http://www.w3.org/ns/csvw","url":"p.csv"}"#;
 
 /// The words that convert one table without a document.
-pub(crate) const PLAIN: &[&str] = &["csvw", "plain", "http://example.org/p.csv", "p.csv"];
+pub(crate) const PLAIN: &str = "csvw plain http://example.org/p.csv p.csv";
 
 /// The words that validate a group of one table.
-pub(crate) const VALIDATE: &[&str] = &[
-    "csvw",
-    "validate",
-    "--base",
-    "http://example.org/",
-    "m.json",
-    "p.csv",
-];
+pub(crate) const VALIDATE: &str = "csvw validate --base http://example.org/ m.json p.csv";
 
 /// The words that convert a group of one table in minimal mode.
-pub(crate) const CONVERT: &[&str] = &[
-    "csvw",
-    "convert",
-    "--minimal",
-    "--base",
-    "http://example.org/",
-    "m.json",
-    "p.csv",
-];
+pub(crate) const CONVERT: &str = "csvw convert --minimal --base http://example.org/ m.json p.csv";
 
 /// The number of the system's error for a file that there isn't (POSIX, `ENOENT`, on Linux).
 const NO_FILE: i32 = 2;
@@ -218,19 +203,30 @@ pub(crate) struct End {
 pub(crate) struct Case {
     /// What the case shows.
     pub(crate) what: &'static str,
-    /// The words of the command line, the program's name first.
-    pub(crate) words: &'static [&'static str],
+    /// The words of the command line with a space between two, the program's name first.
+    pub(crate) words: &'static str,
     /// The files.
     pub(crate) files: &'static [File<'static>],
     /// How the run ends.
     pub(crate) end: End,
 }
 
-/// Returns the words as `command` takes them.
-fn owned(alloc: Global, words: &[&str]) -> Result<Vec<String>, AllocError> {
+/// How the empty word is written.
+const EMPTY_WORD: &str = "''";
+
+/// Returns a word as `command` takes it.
+fn owned_word(alloc: Global, word: &str) -> Result<String, AllocError> {
+    match word == EMPTY_WORD {
+        true => Ok(String::new(alloc)),
+        false => String::from_str(alloc, word),
+    }
+}
+
+/// Returns the words of a line as `command` takes them. They have a space between two.
+fn owned(alloc: Global, words: &str) -> Result<Vec<String>, AllocError> {
     let mut all = Vec::new(alloc);
-    for word in words {
-        all.push(String::from_str(alloc, word)?)?;
+    for word in words.split(' ') {
+        all.push(owned_word(alloc, word)?)?;
     }
     Ok(all)
 }
@@ -238,7 +234,7 @@ fn owned(alloc: Global, words: &[&str]) -> Result<Vec<String>, AllocError> {
 /// Returns the status of a run of these words, or `None` if memory runs out for the words.
 pub(crate) fn status_by<W: Write, V: Write>(
     alloc: Global,
-    words: &[&str],
+    words: &str,
     opener: &mut Files<'_>,
     out: &mut Counted<W>,
     err: &mut Counted<V>,
@@ -250,7 +246,7 @@ pub(crate) fn status_by<W: Write, V: Write>(
 /// Returns the status of a run of these words over these files, or `None` if memory runs out for the words.
 pub(crate) fn status_of<W: Write, V: Write>(
     alloc: Global,
-    words: &[&str],
+    words: &str,
     files: &[File<'_>],
     out: &mut Counted<W>,
     err: &mut Counted<V>,
@@ -259,7 +255,7 @@ pub(crate) fn status_of<W: Write, V: Write>(
 }
 
 /// Returns whether a run of these words with this opener ends like this.
-pub(crate) fn ends_by(alloc: Global, words: &[&str], opener: &mut Files<'_>, end: End) -> bool {
+pub(crate) fn ends_by(alloc: Global, words: &str, opener: &mut Files<'_>, end: End) -> bool {
     let mut out = Counted::new(Vec::new(alloc));
     let mut err = Counted::new(Vec::new(alloc));
     let status = status_by(alloc, words, opener, &mut out, &mut err);
@@ -271,7 +267,7 @@ pub(crate) fn ends_by(alloc: Global, words: &[&str], opener: &mut Files<'_>, end
 }
 
 /// Returns whether a run of these words over these files ends like this, and hands back every reader that it opened.
-pub(crate) fn ends_so(alloc: Global, words: &[&str], files: &[File<'_>], end: End) -> bool {
+pub(crate) fn ends_so(alloc: Global, words: &str, files: &[File<'_>], end: End) -> bool {
     let mut opener = Files::new(files);
     ends_by(alloc, words, &mut opener, end)
         && opener.closed == opener.opened

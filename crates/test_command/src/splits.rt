@@ -4,28 +4,10 @@ use crate::runs::Sent::{Just, SomeText};
 use crate::runs::{Case, End, File, META, each_ends_so};
 
 /// The words that split a group of one table into two parts.
-const SPLIT: &[&str] = &[
-    "csvw",
-    "split",
-    "--parts",
-    "2",
-    "--base",
-    "http://example.org/",
-    "m.json",
-    "p.csv",
-];
+const SPLIT: &str = "csvw split --parts 2 --base http://example.org/ m.json p.csv";
 
 /// The words that split standard input.
-const STANDARD: &[&str] = &[
-    "csvw",
-    "split",
-    "--parts",
-    "2",
-    "--base",
-    "http://example.org/",
-    "m.json",
-    "-",
-];
+const STANDARD: &str = "csvw split --parts 2 --base http://example.org/ m.json -";
 
 /// The document of one table.
 const DOCUMENT: File<'static> = File {
@@ -129,16 +111,7 @@ static SPLITS: [Case; 9] = [
     },
     Case {
         what: "no part",
-        words: &[
-            "csvw",
-            "split",
-            "--parts",
-            "0",
-            "--base",
-            "http://example.org/",
-            "m.json",
-            "p.csv",
-        ],
+        words: "csvw split --parts 0 --base http://example.org/ m.json p.csv",
         files: &[],
         end: End {
             status: 2,
@@ -148,16 +121,7 @@ static SPLITS: [Case; 9] = [
     },
     Case {
         what: "parts that are no number",
-        words: &[
-            "csvw",
-            "split",
-            "--parts",
-            "two",
-            "--base",
-            "http://example.org/",
-            "m.json",
-            "p.csv",
-        ],
+        words: "csvw split --parts two --base http://example.org/ m.json p.csv",
         files: &[],
         end: End {
             status: 2,
@@ -167,14 +131,7 @@ static SPLITS: [Case; 9] = [
     },
     Case {
         what: "no number of parts",
-        words: &[
-            "csvw",
-            "split",
-            "--base",
-            "http://example.org/",
-            "m.json",
-            "p.csv",
-        ],
+        words: "csvw split --base http://example.org/ m.json p.csv",
         files: &[],
         end: End {
             status: 2,

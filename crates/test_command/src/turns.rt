@@ -29,16 +29,7 @@ const REPORT: &[u8] =
 static CASES: [Case; 2] = [
     Case {
         what: "keys that don't match, validated",
-        words: &[
-            "csvw",
-            "validate",
-            "--turns",
-            "--base",
-            "http://example.org/",
-            "m.json",
-            "a.csv",
-            "b.csv",
-        ],
+        words: "csvw validate --turns --base http://example.org/ m.json a.csv b.csv",
         files: FILES,
         end: End {
             status: 1,
@@ -48,17 +39,7 @@ static CASES: [Case; 2] = [
     },
     Case {
         what: "keys that don't match, converted",
-        words: &[
-            "csvw",
-            "convert",
-            "--minimal",
-            "--turns",
-            "--base",
-            "http://example.org/",
-            "m.json",
-            "a.csv",
-            "b.csv",
-        ],
+        words: "csvw convert --minimal --turns --base http://example.org/ m.json a.csv b.csv",
         files: FILES,
         end: End {
             status: 1,

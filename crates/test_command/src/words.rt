@@ -6,7 +6,7 @@ use crate::runs::{Case, End, File, HEADING, META, each_ends_so};
 static ANSWERS: [Case; 4] = [
     Case {
         what: "help goes to standard output",
-        words: &["csvw", "plain", "--help"],
+        words: "csvw plain --help",
         files: &[],
         end: End {
             status: 0,
@@ -16,7 +16,7 @@ static ANSWERS: [Case; 4] = [
     },
     Case {
         what: "the version goes to standard output",
-        words: &["csvw", "--version"],
+        words: "csvw --version",
         files: &[],
         end: End {
             status: 0,
@@ -26,7 +26,7 @@ static ANSWERS: [Case; 4] = [
     },
     Case {
         what: "a file that isn't named",
-        words: &["csvw", "plain", "http://example.org/p.csv"],
+        words: "csvw plain http://example.org/p.csv",
         files: &[],
         end: End {
             status: 2,
@@ -36,7 +36,7 @@ static ANSWERS: [Case; 4] = [
     },
     Case {
         what: "a subcommand that isn't there",
-        words: &["csvw", "convert-all"],
+        words: "csvw convert-all",
         files: &[],
         end: End {
             status: 2,
@@ -52,14 +52,7 @@ const TWICE: &[u8] = b"csvw: standard input is named for two files, and can be r
 static STANDARD_INPUT: [Case; 4] = [
     Case {
         what: "for a document and a table, validated",
-        words: &[
-            "csvw",
-            "validate",
-            "--base",
-            "http://example.org/",
-            "-",
-            "-",
-        ],
+        words: "csvw validate --base http://example.org/ - -",
         files: &[],
         end: End {
             status: 2,
@@ -69,7 +62,7 @@ static STANDARD_INPUT: [Case; 4] = [
     },
     Case {
         what: "for a document and a table, converted",
-        words: &["csvw", "convert", "--base", "http://example.org/", "-", "-"],
+        words: "csvw convert --base http://example.org/ - -",
         files: &[],
         end: End {
             status: 2,
@@ -79,14 +72,7 @@ static STANDARD_INPUT: [Case; 4] = [
     },
     Case {
         what: "for one table",
-        words: &[
-            "csvw",
-            "validate",
-            "--base",
-            "http://example.org/",
-            "m.json",
-            "-",
-        ],
+        words: "csvw validate --base http://example.org/ m.json -",
         files: &[
             File {
                 path: "m.json",
@@ -105,15 +91,7 @@ static STANDARD_INPUT: [Case; 4] = [
     },
     Case {
         what: "for two tables",
-        words: &[
-            "csvw",
-            "validate",
-            "--base",
-            "http://example.org/",
-            "m.json",
-            "-",
-            "-",
-        ],
+        words: "csvw validate --base http://example.org/ m.json - -",
         files: &[
             File {
                 path: "m.json",

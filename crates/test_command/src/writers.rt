@@ -49,17 +49,11 @@ struct Lost {
     err: &'static [u8],
 }
 
-/// Returns whether a run over a table at this URL whose writer's flush fails has this result.
-fn leaves(alloc: Global, url: &str, lost: &Lost) -> bool {
+/// Returns whether a run of these words over a table whose writer's flush fails has this result.
+fn leaves(alloc: Global, words: &str, lost: &Lost) -> bool {
     let mut out = Counted::new(FlushFails::new(alloc));
     let mut err = Counted::new(Vec::new(alloc));
-    let status = status_of(
-        alloc,
-        &["csvw", "plain", url, "p.csv"],
-        &RAGGED,
-        &mut out,
-        &mut err,
-    );
+    let status = status_of(alloc, words, &RAGGED, &mut out, &mut err);
     let err = err.into_inner();
     status == Some(lost.status) && out.failures() == lost.failures && err.as_slice() == lost.err
 }
@@ -71,7 +65,7 @@ fn a_flush_that_fails_is_reported_in_place_of_a_stop_in_a_table(rt: HostRuntime)
         failures: 1,
         err: STOP,
     };
-    assert!(rt; leaves(rt.alloc(), "http://example.org/p.csv", &lost));
+    assert!(rt; leaves(rt.alloc(), PLAIN, &lost));
 }
 
 #[test]
@@ -81,7 +75,7 @@ fn nothing_is_flushed_before_the_tables(rt: HostRuntime) {
         failures: 0,
         err: b"csvw: metadata BadUrl /url\n",
     };
-    assert!(rt; leaves(rt.alloc(), "http://[", &lost));
+    assert!(rt; leaves(rt.alloc(), "csvw plain http://[ p.csv", &lost));
 }
 
 /// A writer that keeps its bytes until it is flushed.
