@@ -5,7 +5,8 @@ usage: build/build.py [--jobs N] [--times]
 
     --jobs N    proves at most N crates at a time. Else it takes one lane for each processor, and at most one for each
                 4 GB of free memory
-    --times     prints at the end the seconds of each crate, and the longest chain of crates by these seconds
+    --times     prints at the end the seconds and the processor seconds of each crate, and the longest chain of crates by seconds
+    --keep      keeps what later checks of each crate begin with, some 14 GB in out/incremental of the crates
 
 It writes to standard error, one line for each crate that is done. The status is 0 if the program is proved and linked, 4 if
 a crate fails, 130 if it is interrupted and 2 if its words are wrong. After an interruption it goes on with what is kept.
@@ -13,6 +14,10 @@ a crate fails, 130 if it is interrupted and 2 if its words are wrong. After an i
 Two runs of rt in one working tree wait for each other if a crate is below both. So each lane is a folder of its own,
 out/build/N: the sources as they are at the start, and links to the libraries that are done. What a lane makes goes to
 crates/NAME/out, and rt itself checks by its sums that it fits the sources there.
+
+The crates with the longest chain to the program come first. build/seconds.txt has the processor seconds of each. A crate takes two lanes if
+its chain is longer than all the work that is left takes in all lanes. What a check keeps for a later one is removed once its
+crate is proved, unless it was there before.
 """
 import argparse
 import contextlib
@@ -31,6 +36,7 @@ from pathlib import Path
 TOP = Path(__file__).resolve().parent.parent
 CRATES = TOP / "crates"
 LANES = TOP / "out" / "build"
+SECONDS = TOP / "build" / "seconds.txt"
 PROGRAM = CRATES / "csvw" / "out" / "csvw"
 RECORD = CRATES / "csvw" / "out" / "csvw.record"
 PARTS = ("src", "specs", "proofs")
@@ -76,6 +82,15 @@ def closures(used):
 def files_of(name):
     """The sources of a crate, in order."""
     return sorted(it for part in PARTS for it in (CRATES / name / part).rglob("*") if it.is_file())
+
+
+def weights(names):
+    """How long each crate takes: the seconds of build/seconds.txt. A crate that isn't there takes as long for its bytes as those there."""
+    rows = [line.split() for line in SECONDS.read_text().splitlines() if line and not line.startswith("#")]
+    known = {name: float(seconds) for seconds, name in rows if name in names}
+    size = {name: sum(it.stat().st_size for it in files_of(name)) for name in names}
+    rate = sum(known.values()) / max(1, sum(size[it] for it in known)) if known else 1
+    return {name: known.get(name, size[name] * rate) for name in names}
 
 
 def chains(weight, below):
@@ -207,21 +222,34 @@ def give_kept(name, kept):
             kept.rename(own)
 
 
+def has_ended(ran):
+    """Whether a process has ended. Returns its processor seconds then, with those of the processes that it waited for, or None."""
+    pid, status, used = os.wait4(ran.pid, os.WNOHANG)
+    if not pid:
+        return None
+    ran.returncode = os.waitstatus_to_exitcode(status)
+    return used.ru_utime + used.ru_stime
+
+
 class Build:
     """The crates that are left, those that run, and where the libraries are that are done."""
 
-    def __init__(self, below, lanes):
-        self.below, self.lanes = below, lanes
+    def __init__(self, below, lanes, keeps):
+        self.below, self.lanes, self.keeps = below, lanes, keeps
         self.libraries = [it for it in below if it != "csvw"]
-        weight = {name: sum(it.stat().st_size for it in files_of(name)) for name in below}
-        self.chain = chains(weight, below)
+        self.weight = weights(list(below))
+        self.chain = chains(self.weight, below)
         self.left = sorted(self.libraries, key=lambda it: -self.chain[it])
         self.idle = [str(it) for it in range(lanes, 0, -1)]
-        self.running, self.made_in, self.seconds = {}, {}, {}
+        self.running, self.made_in, self.seconds, self.processor, self.had_kept = {}, {}, {}, {}, set()
         self.began = time.monotonic()
 
     def ready(self):
         return [it for it in self.left if all(below in self.made_in for below in self.below[it])]
+
+    def is_critical(self, name):
+        """Whether the chain of a crate takes longer than all that is left takes in all lanes."""
+        return self.chain[name] * self.lanes > sum(self.weight[it] for it in [*self.left, *self.running])
 
     def start_ready(self):
         """Starts the crates that wait for none, those with the longest chain first. The lanes that no crate takes are jobs of those that run."""
@@ -230,7 +258,8 @@ class Build:
             free = self.lanes - sum(jobs for _, _, jobs, _ in self.running.values())
             if free < 1:
                 return
-            self.start(name, max(1, min(MOST_JOBS, free // (len(ready) - at))))
+            jobs = max(free // (len(ready) - at), 2 if self.is_critical(name) else 1)
+            self.start(name, min(MOST_JOBS, free, jobs))
 
     def start(self, name, jobs):
         lane = self.idle.pop()
@@ -244,6 +273,7 @@ class Build:
                 link_folder(here / "rlib", out / "rlib")
             if (here / "incremental").is_dir():
                 (here / "incremental").rename(out / "incremental")
+                self.had_kept.add(name)
         here.mkdir(exist_ok=True)
         with open(here / "build.log", "wb") as log:
             how = {"stdin": subprocess.DEVNULL, "stdout": log, "stderr": subprocess.STDOUT}
@@ -255,8 +285,12 @@ class Build:
         ran, lane, _, began = self.running.pop(name)
         out, here = LANES / lane / "crates" / name / "out", CRATES / name / "out"
         self.idle.append(lane)
-        give_kept(name, out / "incremental")
-        if ran.returncode or not (out / "rlib" / "stamp").is_file():
+        is_proved = not ran.returncode and (out / "rlib" / "stamp").is_file()
+        if is_proved and name not in self.had_kept and not self.keeps:
+            shutil.rmtree(out / "incremental", ignore_errors=True)
+        else:
+            give_kept(name, out / "incremental")
+        if not is_proved:
             raise Failed(name)
         with alone_in(CRATES / name):
             if not (here / "rlib" / "stamp").is_file() or not (here / "rlib" / "stamp").samefile(out / "rlib" / "stamp"):
@@ -271,9 +305,10 @@ class Build:
 
     def stop(self):
         """Ends what runs. What rt started ends with it."""
-        for ran, *_ in self.running.values():
+        runs = [ran for ran, *_ in self.running.values() if ran.returncode is None]
+        for ran in runs:
             ran.kill()
-        for ran, *_ in self.running.values():
+        for ran in runs:
             ran.wait()
 
     def prove(self):
@@ -281,8 +316,11 @@ class Build:
             make_lanes(self.lanes, self.libraries)
             while self.left or self.running:
                 self.start_ready()
-                for name in [it for it, (ran, *_) in self.running.items() if ran.poll() is not None]:
-                    self.end(name)
+                for name, (ran, *_) in [*self.running.items()]:
+                    used = has_ended(ran)
+                    if used is not None:
+                        self.processor[name] = used
+                        self.end(name)
                 time.sleep(0.05)
         finally:
             self.stop()
@@ -298,7 +336,9 @@ class Build:
             ran = subprocess.Popen(["rt", "run", "--jobs", str(jobs), "--", "--help"], cwd=folder, **how)
             self.running["csvw"] = ran, None, jobs, began
             try:
-                ran.wait()
+                while (used := has_ended(ran)) is None:
+                    time.sleep(0.05)
+                self.processor["csvw"] = used
             finally:
                 self.stop()
                 self.running.clear()
@@ -308,7 +348,7 @@ class Build:
 
     def print_times(self):
         for name, seconds in sorted(self.seconds.items(), key=lambda it: -it[1]):
-            print(f"{seconds:7.0f} {name}", file=sys.stderr)
+            print(f"{seconds:7.0f} {self.processor.get(name, 0):7.0f} {name}", file=sys.stderr)
         most = chains({it: self.seconds.get(it, 0) for it in self.below}, self.below)
         at = max(most, key=most.get)
         chain = [at]
@@ -316,9 +356,10 @@ class Build:
             at = max((it for it in self.below if at in self.below[it]), key=most.get)
             chain.append(at)
         print(f"the longest chain has {most[chain[0]]:.0f} of {sum(self.seconds.values()):.0f} seconds: {' '.join(chain)}", file=sys.stderr)
+        print(f"{time.monotonic() - self.began:.0f} seconds in all, {sum(self.processor.values()):.0f} processor seconds", file=sys.stderr)
 
 
-def build(lanes, times):
+def build(lanes, times, keeps):
     LANES.mkdir(parents=True, exist_ok=True)
     with alone_in(LANES.parent):
         clear_lanes()
@@ -328,7 +369,7 @@ def build(lanes, times):
         if record and all(record[it] == now[it] for it in ("sources", "kit")) and not times:
             say("the program is proved and built, and no source of it has changed")
         else:
-            work = Build(closures(named_crates()), lanes or lanes_that_fit())
+            work = Build(closures(named_crates()), lanes or lanes_that_fit(), keeps)
             say(f"proving {len(work.below)} crates in {work.lanes} lane{'s' * (work.lanes != 1)} (`./csvw --try` needs no build)")
             try:
                 work.prove()
@@ -356,6 +397,7 @@ def main():
     words = argparse.ArgumentParser(prog="csvw --build", description="Proves the crates of csvw in lanes, and links the program.")
     words.add_argument("--jobs", type=number, metavar="N", help="prove at most N crates at a time")
     words.add_argument("--times", action="store_true", help="print the seconds of each crate, and the longest chain")
+    words.add_argument("--keep", action="store_true", help="keep what later checks of each crate begin with, some 14 GB")
     given = words.parse_args()
 
     def interrupted(*_):
@@ -366,7 +408,7 @@ def main():
     for it in (signal.SIGINT, signal.SIGTERM, signal.SIGHUP):
         signal.signal(it, interrupted)
     try:
-        build(given.jobs, given.times)
+        build(given.jobs, given.times, given.keep)
     except Failed as failure:
         say(f"the crate {failure} failed")
         print(*end_of_log(str(failure)), sep="\n", file=sys.stderr)
