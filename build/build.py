@@ -87,7 +87,7 @@ def files_of(name):
 def weights(names):
     """How long each crate takes: the seconds of build/seconds.txt. A crate that isn't there takes as long for its bytes as those there."""
     rows = [line.split() for line in SECONDS.read_text().splitlines() if line and not line.startswith("#")]
-    known = {name: float(seconds) for seconds, name in rows if name in names}
+    known = {name: float(seconds) for name, seconds in rows if name in names}
     size = {name: sum(it.stat().st_size for it in files_of(name)) for name in names}
     rate = sum(known.values()) / max(1, sum(size[it] for it in known)) if known else 1
     return {name: known.get(name, size[name] * rate) for name in names}
