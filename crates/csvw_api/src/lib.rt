@@ -33,10 +33,12 @@
 //! - `Session`: csvw_session says what its sink takes at each call; csvw_group_laws says what that is when all tables are ended.
 //! - `Description::read`, `Description::read_by` and `Plan::build`: csvw_meta and csvw_columns say when they fail.
 //! - `bundle`: csvw_bundle says which document it returns, whose schemas and dialects are files of their own.
+//! - `with_defaults`: csvw_defaults says which values it leaves out of a document in the profile `w3c`, so that their defaults hold.
 #![tactic(auto)]
 
 pub use csvw_bundle::{Resource, bundle};
 pub use csvw_columns::Plan;
+pub use csvw_defaults::{Defaulted, with_defaults};
 pub use csvw_engine::{Order, Request, Way, plain, run, run_by, run_turns, write_report};
 pub use csvw_meta::{Description, MetaCode, MetaFault, Profile, ReadDescription};
 pub use csvw_ntriples::NtSink;

@@ -10,6 +10,8 @@ mod columns;
 #[cfg(test)]
 mod contexts;
 #[cfg(test)]
+mod defaults;
+#[cfg(test)]
 mod dialects;
 #[cfg(test)]
 mod groups;

@@ -1,0 +1,6 @@
+mod BytesLemmas
+mod DepthLemmas
+mod ItemLemmas
+mod MemberLemmas
+mod LeftLemmas
+mod SourceLemmas
