@@ -23,7 +23,9 @@ use Rattle.csvw_files.specs.ResourceFiles.{BundlesFiles, BundlesNot}
 use Rattle.csvw_files.specs.declared.resources.ResourceFile.{ResourceFile}
 use Rattle.csvw_command_runs.specs.Resources.{AreResources}
 use Rattle.csvw_command_runs.specs.Status.{outcome_status}
+use Rattle.csvw_defaults.specs.Documents.{IsDefaulted}
 use Rattle.csvw_meta.specs.Document.{document_by}
+use Rattle.csvw_meta_core.specs.declared.fault.MetaFault.{MetaFault}
 use Rattle.csvw_meta_core.specs.declared.profile.Profile.{Profile}
 use Rattle.csvw_meta_core.specs.declared.profile.Profile.TheVariants.{Core, W3c}
 
@@ -67,7 +69,7 @@ pub record StopsOpening {O R : Type 0} (opens : O → Text → Option R → O �
   pub fails : ((reason ≡ stop.Memory) × (new ≡ between)) ⊎ ((reason ≡ stop.Read) × MissesFirst opens between rest new)
 
 -- The metadata is read, and its resources take the place of their URLs.
-pub record ReadsMeta {O R : Type 0} (opens : O → Text → Option R → O → Type 0) (closes : O → Counted R → O → Type 0) (remaining : R → Option (List ℕ))
+pub record BundlesMeta {O R : Type 0} (opens : O → Text → Option R → O → Type 0) (closes : O → Counted R → O → Type 0) (remaining : R → Option (List ℕ))
     (group : Group) (old new : O) (bytes : List ℕ) : Type 0 where
   pub own : List ℕ
   pub between : O
@@ -86,12 +88,38 @@ pub record LacksResource {O R : Type 0} (opens : O → Text → Option R → O �
   pub are_resources : AreResources (map (λ word. word.now) group.resources.items) resources
   pub not_bundled : BundlesNot opens closes remaining resources group.base.now own between new reason
 
+-- why the metadata isn't read with its resources
+abbrev pub BundlesNoMeta : {O R : Type 0} → (O → Text → Option R → O → Type 0) → (O → Counted R → O → Type 0) → (R → Option (List ℕ)) → Group → O → O → Stop
+    → Type 0
+BundlesNoMeta opens closes remaining group old new reason =
+    ((reason ≡ stop.Memory) × (new ≡ old))
+    ⊎ (ReadsNot opens closes group.meta.now old new reason ⊎ LacksResource opens closes remaining group old new reason)
+
+-- the profile of a name; without one it is the core
+abbrev pub profile_of : Option (Bor Text) → Profile
+profile_of None = Core
+profile_of (Some name) = if bytes_eq name.now (codes "w3c") then W3c else Core
+
+-- The metadata is read with its resources. Then the values that the profile ignores are left out.
+pub record ReadsMeta {O R : Type 0} (opens : O → Text → Option R → O → Type 0) (closes : O → Counted R → O → Type 0) (remaining : R → Option (List ℕ))
+    (group : Group) (old new : O) (bytes : List ℕ) : Type 0 where
+  pub whole : List ℕ
+  pub bundled : BundlesMeta opens closes remaining group old new whole
+  pub ignored : List MetaFault
+  pub defaulted : IsDefaulted (profile_of group.profile) whole bytes ignored
+
+-- the metadata is read with its resources, and then memory runs out
+pub record LacksMemoryThen {O R : Type 0} (opens : O → Text → Option R → O → Type 0) (closes : O → Counted R → O → Type 0) (remaining : R → Option (List ℕ))
+    (group : Group) (old new : O) (reason : Stop) : Type 0 where
+  pub whole : List ℕ
+  pub bundled : BundlesMeta opens closes remaining group old new whole
+  pub is_memory : reason ≡ stop.Memory
+
 -- why the metadata isn't read
 abbrev pub ReadsNoMeta : {O R : Type 0} → (O → Text → Option R → O → Type 0) → (O → Counted R → O → Type 0) → (R → Option (List ℕ)) → Group → O → O → Stop
     → Type 0
 ReadsNoMeta opens closes remaining group old new reason =
-    ((reason ≡ stop.Memory) × (new ≡ old))
-    ⊎ (ReadsNot opens closes group.meta.now old new reason ⊎ LacksResource opens closes remaining group old new reason)
+    BundlesNoMeta opens closes remaining group old new reason ⊎ LacksMemoryThen opens closes remaining group old new reason
 
 -- the metadata is read, and then the files of the tables are opened
 pub record OpensGroup {O R : Type 0} (opens : O → Text → Option R → O → Type 0) (closes : O → Counted R → O → Type 0) (remaining : R → Option (List ℕ))
@@ -145,11 +173,6 @@ pub record StopsEarly (Leaves : Stream → Result Outcome Stop → Type 0) (err 
 abbrev pub order_of : Bool → Order
 order_of true = InTurns
 order_of false = TableByTable
-
--- the profile of a name; without one it is the core
-abbrev pub profile_of : Option (Bor Text) → Profile
-profile_of None = Core
-profile_of (Some name) = if bytes_eq name.now (codes "w3c") then W3c else Core
 
 -- The graph goes to `out`, and the report to `err`; where there is no graph, the report goes to `out`.
 abbrev pub Leaves : {R : Type 0} → (R → Option (List ℕ)) → Mode → Order → Profile → List ℕ → List ℕ → List (Counted R) → List (Counted R) → Stream

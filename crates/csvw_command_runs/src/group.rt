@@ -1,6 +1,6 @@
 //! Runs over the files of a group of tables.
 ghost use Rattle.std.specs.Prelude.{◌≡◌, ◌≤◌, IfErr, IfOk, map};
-ghost use Rattle.csvw_command_runs.specs.Groups.{ClosesAll, EndsSo, Leaves, OpensAll, OpensGroup, OpensNot, ReadsMeta, ReadsNoMeta, RunsGroup};
+ghost use Rattle.csvw_command_runs.specs.Groups.{BundlesMeta, BundlesNoMeta, ClosesAll, EndsSo, Leaves, OpensAll, OpensGroup, OpensNot, ReadsMeta, ReadsNoMeta, RunsGroup};
 ghost use Rattle.csvw_command_runs.specs.Groups.{StopsOpening, order_of};
 ghost use Rattle.csvw_streams.specs.Streams.{stream_of};
 
@@ -8,6 +8,7 @@ use crate::profile::profile_of;
 use crate::resources::resource_files;
 use crate::tell::{outcome_status, tell_stop};
 use csvw_command_core::Group;
+use csvw_defaults::with_defaults;
 use csvw_engine::{Order, Outcome, Request, Stop, Way, run_by};
 use csvw_files::{Opener, bundle_files, read_file};
 use csvw_text::{Counted, Fault, Seq};
@@ -47,9 +48,9 @@ fn open_all<O: Opener>(
 
 /// Reads the metadata, and the resources that take the place of their URLs in it. Each reader is handed back as soon as it
 /// was read, also if it failed.
-fn read_meta<O: Opener>(alloc: Global, group: &Group<'_>, opener: &mut O) -> Result<Vec<u8>, Stop>
-    ensures read { IfOk result (λ bytes. ReadsMeta O.opens O.closes O.Reader.remaining group.now opener.old opener.new bytes.items) }
-    ensures stop { IfErr result (λ reason. ReadsNoMeta O.opens O.closes O.Reader.remaining group.now opener.old opener.new reason) }
+fn bundle_meta<O: Opener>(alloc: Global, group: &Group<'_>, opener: &mut O) -> Result<Vec<u8>, Stop>
+    ensures read { IfOk result (λ bytes. BundlesMeta O.opens O.closes O.Reader.remaining group.now opener.old opener.new bytes.items) }
+    ensures stop { IfErr result (λ reason. BundlesNoMeta O.opens O.closes O.Reader.remaining group.now opener.old opener.new reason) }
 {
     let Ok(resources) = resource_files(alloc, group.resources.as_slice()) else {
         return Err(Stop::Memory);
@@ -57,6 +58,21 @@ fn read_meta<O: Opener>(alloc: Global, group: &Group<'_>, opener: &mut O) -> Res
     match read_file(alloc, group.meta, opener) {
         Ok(own) => bundle_files(alloc, own, group.base, resources.as_slice(), opener),
         Err(stop) => Err(stop),
+    }
+}
+
+/// Reads the metadata with its resources. In the profile `w3c` the values that aren't permitted are left out.
+fn read_meta<O: Opener>(alloc: Global, group: &Group<'_>, opener: &mut O) -> Result<Vec<u8>, Stop>
+    ensures read { IfOk result (λ bytes. ReadsMeta O.opens O.closes O.Reader.remaining group.now opener.old opener.new bytes.items) }
+    ensures stop { IfErr result (λ reason. ReadsNoMeta O.opens O.closes O.Reader.remaining group.now opener.old opener.new reason) }
+{
+    let whole = match bundle_meta(alloc, group, opener) {
+        Ok(whole) => whole,
+        Err(stop) => return Err(stop),
+    };
+    match with_defaults(alloc, whole, profile_of(group.profile)) {
+        Ok(defaulted) => Ok(defaulted.bytes),
+        Err(_) => Err(Stop::Memory),
     }
 }
 

@@ -6,6 +6,7 @@ use crate::profile::profile_of;
 use crate::resources::resource_files;
 use crate::tell::tell_stop;
 use csvw_columns::Plan;
+use csvw_defaults::with_defaults;
 use csvw_engine::{Stop, planned};
 use csvw_files::{Opener, ResourceFile, bundle_files, note_unread, read_document};
 use csvw_text::Counted;
@@ -119,9 +120,12 @@ pub(crate) fn plan_of<'a, O: Opener>(
     ensures { IfOk result (λ plan. AreReady plan.tables) }
 {
     let own = read_file(alloc, document.path, opener)?;
-    let meta = with_resources(alloc, own, document, opener)?;
+    let whole = with_resources(alloc, own, document, opener)?;
     let profile = profile_of(document.profile);
-    match planned(alloc, meta.as_slice(), document.base, profile) {
+    let Ok(meta) = with_defaults(alloc, whole, profile) else {
+        return Err(FileStop::Stop(Stop::Memory));
+    };
+    match planned(alloc, meta.bytes.as_slice(), document.base, profile) {
         Ok(plan) => Ok(plan),
         Err(stop) => Err(FileStop::Stop(stop)),
     }

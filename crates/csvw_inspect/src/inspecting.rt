@@ -7,6 +7,7 @@ use crate::asked::{Inspect, InspectForm};
 use crate::json::json_of;
 use crate::text::lines_of;
 use csvw_columns::Plan;
+use csvw_defaults::with_defaults;
 use csvw_engine_core::Stop;
 use csvw_files::{Opener, bundle_files, read_file};
 use csvw_meta::{Description, MetaCode, MetaFault, Profile, ReadDescription};
@@ -47,7 +48,8 @@ fn send<W: Write>(out: &mut Counted<W>, bytes: &[u8]) -> Result<(), Stop>
 /// Returns the text of a document.
 fn text_of<O: Opener>(alloc: Global, asked: &Inspect<'_>, opener: &mut O) -> Result<String, Stop> {
     let own = read_file(alloc, asked.meta, opener)?;
-    let bytes = bundle_files(alloc, own, asked.base, asked.resources, opener)?;
+    let whole = bundle_files(alloc, own, asked.base, asked.resources, opener)?;
+    let bytes = with_defaults(alloc, whole, asked.profile)?.bytes;
     match plan_of(alloc, bytes.as_slice(), asked.base, asked.profile) {
         Ok(plan) => Ok(shown(alloc, asked, bytes.as_slice(), &plan)?),
         Err(fault) => Err(match fault.code {
