@@ -77,7 +77,7 @@ fn check_document<O: Opener, W: Write>(
     let (asked, document) = source;
     let bytes = document.bytes();
     match plan_of(walker.page.alloc, bytes, asked.base, asked.profile) {
-        Ok(plan) => check_plan((asked, document.own.as_slice()), &plan, opener, walker, out),
+        Ok(plan) => check_plan((asked, document), &plan, opener, walker, out),
         Err(fault) => {
             let faults = faults_of(walker.page.alloc, bytes, asked.base, asked.profile);
             let refused = Refused {
@@ -104,7 +104,7 @@ fn refuse<W: Write>(
 
 /// Finds the file of each table, and checks them. Returns the status.
 fn check_plan<O: Opener, W: Write>(
-    source: (&Check<'_>, &[u8]),
+    source: (&Check<'_>, &Document),
     plan: &Plan,
     opener: &mut O,
     walker: &mut Walker,
@@ -120,16 +120,16 @@ fn check_plan<O: Opener, W: Write>(
     let paths = paths(walker.page.alloc, asked.meta, asked.files, plan.tables())?;
     let tables = Tables {
         group: asked.group(),
-        document,
+        document: document.own.as_slice(),
         plan,
         paths: paths.as_slice(),
     };
-    check_tables(asked, &tables, opener, walker, out)
+    check_tables((asked, document), &tables, opener, walker, out)
 }
 
 /// Reads the tables, and shows what is wrong with them. Returns the status.
 fn check_tables<O: Opener, W: Write>(
-    asked: &Check<'_>,
+    source: (&Check<'_>, &Document),
     tables: &Tables<'_>,
     opener: &mut O,
     walker: &mut Walker,
@@ -137,12 +137,14 @@ fn check_tables<O: Opener, W: Write>(
 ) -> Result<u8, Halt>
     requires { AreReady tables.now.plan.now.tables }
 {
+    let (asked, document) = source;
     let alloc = walker.page.alloc;
     let found = read(alloc, tables.plan, tables.paths, opener)?;
     let most = most_of(asked.form, asked.shown);
     let repeats = repeats_of(alloc, tables, found.faults.as_slice(), most, opener)?;
     let report = Report {
         tables: *tables,
+        changed: document.changed.as_slice(),
         faults: found.faults.as_slice(),
         repeats: repeats.as_slice(),
         rows: found.rows.as_slice(),

@@ -178,14 +178,14 @@ fn show_planned<O: Opener, W: Write>(
         paths: paths.as_slice(),
     };
     match run.part {
-        Part::Report => show_report(asked, &tables, walker, opener, out),
+        Part::Report => show_report(run, &tables, walker, opener, out),
         Part::Stop(stop) => show_stop(stop, &tables, &mut walker.page, opener, out),
     }
 }
 
 /// Shows the report of a run, and its stop if it stopped.
 fn show_report<O: Opener, W: Write>(
-    asked: &Show<'_>,
+    run: &Run<'_>,
     tables: &Tables<'_>,
     walker: &mut Walker,
     opener: &mut O,
@@ -193,6 +193,11 @@ fn show_report<O: Opener, W: Write>(
 ) -> Result<(), Halt>
     requires { AreReady tables.now.plan.now.tables }
 {
+    let Run {
+        asked,
+        document,
+        ..
+    } = *run;
     let alloc = walker.page.alloc;
     let most = most_of(asked.form, asked.shown);
     let repeats = repeats_of(alloc, tables, asked.faults, most, opener)?;
@@ -202,6 +207,7 @@ fn show_report<O: Opener, W: Write>(
     };
     let report = Report {
         tables: *tables,
+        changed: document.changed.as_slice(),
         faults: asked.faults,
         repeats: repeats.as_slice(),
         rows: &[],

@@ -96,6 +96,7 @@ impl<'a> Check<'a> {
             base: self.base,
             meta: self.meta,
             resources: self.resources,
+            profile: self.profile,
         }
     }
 }
@@ -116,6 +117,7 @@ impl<'a> Show<'a> {
             base: self.base,
             meta: self.meta,
             resources: self.resources,
+            profile: self.profile,
         }
     }
 }

@@ -2,9 +2,10 @@
 
 use crate::document::end_page;
 use crate::stop::{Stopped, tell_stop};
-use crate::unknown::show_ignored;
+use crate::unknown::{Ignored, show_ignored};
 use csvw_files::Opener;
 use csvw_hints::Tables;
+use csvw_meta::MetaFault;
 use csvw_page::{Counts, Halt, Summary};
 use csvw_reread::{GroupFaults, Repeat, Walker};
 use csvw_streams::Counted;
@@ -16,6 +17,8 @@ use std::io::Write;
 pub struct Report<'a> {
     /// The tables.
     pub tables: Tables<'a>,
+    /// The values of the document that aren't permitted and are ignored (`BadProperty`), and the bounds that are read as texts.
+    pub changed: &'a [MetaFault],
     /// The faults, in the order of reports.
     pub faults: &'a [Fault],
     /// The rows that repeat a primary key, sorted by tables and rows. A row that isn't here is shown without the first row
@@ -29,7 +32,7 @@ pub struct Report<'a> {
     pub status: u8,
 }
 
-/// Returns how many properties of the document are ignored.
+/// Returns how many warnings there are of properties that are ignored.
 fn ignored(faults: &[Fault]) -> u64 {
     let ignored = faults
         .iter()
@@ -69,12 +72,13 @@ impl Report<'_> {
             status: self.status,
         };
         walker.page.begin(self.tables.group.meta, Some(&summary))?;
-        show_ignored(
-            &mut walker.page,
-            self.tables.group.meta,
-            self.tables.document,
-            ignored(self.faults),
-        )?;
+        let shown = Ignored {
+            path: self.tables.group.meta,
+            bytes: self.tables.document,
+            values: self.changed,
+            times: ignored(self.faults),
+        };
+        show_ignored(&mut walker.page, &shown)?;
         walker.page.send(out)?;
         faults.show(walker, totals, opener, out)?;
         if let Some(stopped) = &self.stop {

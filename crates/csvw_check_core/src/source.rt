@@ -1,9 +1,11 @@
 //! A document, and the files of the resources that it names by their URLs.
 
 use crate::document::{UnreadFile, opened};
+use csvw_defaults::{Defaulted, with_defaults};
 use csvw_engine_core::Stop;
 use csvw_files::{Opener, ResourceFile, bundle_files};
-use csvw_meta::MetaFault;
+use csvw_meta::{MetaFault, Profile};
+use csvw_text::Seq;
 use std::alloc::{AllocError, Global};
 
 /// A document that is to be read, and the files of its resources.
@@ -15,6 +17,8 @@ pub struct Source<'a> {
     pub meta: &'a str,
     /// The files of the schemas and dialects that the document names by their URLs. There may be none.
     pub resources: &'a [ResourceFile<'a>],
+    /// The features that the document may use.
+    pub profile: Profile,
 }
 
 /// A document that was read from its file.
@@ -22,14 +26,17 @@ pub struct Source<'a> {
 pub struct Document {
     /// Its own bytes. Lines, columns and hints are of these bytes.
     pub own: Vec<u8>,
-    /// Its bytes with the objects of its resources in place of their URLs. It is `None` if there are no resources.
-    pub bundled: Option<Vec<u8>>,
+    /// Its bytes with the objects of its resources in place of their URLs, and without the values that aren't permitted. It is `None` if
+    /// these are its own bytes.
+    pub defaulted: Option<Vec<u8>>,
+    /// The values that aren't permitted and are ignored (`BadProperty`), and the bounds that are read as texts (`NotSupported`).
+    pub changed: Seq<MetaFault>,
 }
 
 impl Document {
     /// Returns the bytes that say what the document describes.
     pub fn bytes(&self) -> &[u8] {
-        match &self.bundled {
+        match &self.defaulted {
             Some(bytes) => bytes.as_slice(),
             None => self.own.as_slice(),
         }
@@ -82,6 +89,22 @@ pub fn unread_file<'a, O: Opener>(
     }
 }
 
+/// Returns a document with its own bytes, and with these bytes of it and its resources.
+fn document_of(
+    alloc: Global,
+    own: Vec<u8>,
+    bytes: Vec<u8>,
+    profile: Profile,
+) -> Result<Document, AllocError> {
+    let Defaulted { bytes, changed } = with_defaults(alloc, bytes, profile)?;
+    let is_own = bytes.as_slice() == own.as_slice();
+    Ok(Document {
+        own,
+        defaulted: if is_own { None } else { Some(bytes) },
+        changed,
+    })
+}
+
 /// Reads a document, and the files of its resources. It returns `AllocError` if memory runs out.
 pub fn open_document<'a, O: Opener>(
     alloc: Global,
@@ -95,15 +118,9 @@ pub fn open_document<'a, O: Opener>(
             error: opener.io_error(source.meta),
         }));
     };
-    if source.resources.is_empty() {
-        return Ok(Opened::Document(Document { own, bundled: None }));
-    }
     let copy = Vec::from_slice(alloc, own.as_slice())?;
     match bundle_files(alloc, copy, source.base, source.resources, opener) {
-        Ok(bytes) => Ok(Opened::Document(Document {
-            own,
-            bundled: Some(bytes),
-        })),
+        Ok(bytes) => Ok(Opened::Document(document_of(alloc, own, bytes, source.profile)?)),
         Err(Stop::Read) => Ok(Opened::Unread(unread_file(alloc, source, opener))),
         Err(Stop::Meta(fault)) => Ok(Opened::Refused(own, fault)),
         Err(_) => Err(AllocError),

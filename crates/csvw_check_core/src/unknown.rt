@@ -2,7 +2,8 @@
 
 use crate::near::near_name;
 use crate::objects::{Object, object_with};
-use csvw_hints::{Lines, Scan};
+use csvw_hints::{Lines, Scan, place_of};
+use csvw_meta::{MetaCode, MetaFault};
 use csvw_page::{Meant, Page, UnknownShown};
 use std::alloc::{AllocError, Global};
 
@@ -252,23 +253,79 @@ pub(crate) fn show_unknown(page: &mut Page, path: &str, bytes: &[u8]) -> Result<
     Ok(count)
 }
 
-/// Adds so many properties of the document that are ignored. Those of a resource, and
-/// those whose names have escapes, are counted.
-pub(crate) fn show_ignored(
+/// How many values have their lines. To find one takes a walk through the document.
+const PLACED: usize = 1_000;
+
+/// What is ignored in a document.
+#[derive(Clone, Copy)]
+pub(crate) struct Ignored<'a> {
+    /// The path of the document.
+    pub(crate) path: &'a str,
+    /// Its own bytes.
+    pub(crate) bytes: &'a [u8],
+    /// The values that aren't permitted (`BadProperty`), and others that aren't shown.
+    pub(crate) values: &'a [MetaFault],
+    /// How many warnings there are in the report.
+    pub(crate) times: u64,
+}
+
+/// Returns the last token of a pointer.
+fn last_token(pointer: &str) -> &str {
+    match pointer.rsplit_once('/') {
+        Some((_, token)) => token,
+        None => "",
+    }
+}
+
+/// Adds a value that isn't permitted: its place, its pointer and its name. `times` values come before it.
+fn show_value(
     page: &mut Page,
-    path: &str,
-    bytes: &[u8],
-    ignored: u64,
+    ignored: &Ignored<'_>,
+    value: &MetaFault,
+    times: usize,
 ) -> Result<(), AllocError> {
-    if ignored == 0 {
+    let pointer = value.pointer.as_str();
+    let (line, column) = match times < PLACED {
+        true => place_of(ignored.bytes, pointer),
+        false => (0, 0),
+    };
+    page.warning(&UnknownShown {
+        path: ignored.path,
+        line: line as u64,
+        column: column as u64,
+        pointer,
+        name: last_token(pointer),
+        object: "",
+        meant: Meant::Value,
+    })
+}
+
+/// Adds each value that isn't permitted. Returns how many there are.
+fn show_values(page: &mut Page, ignored: &Ignored<'_>) -> Result<usize, AllocError> {
+    let mut times = 0usize;
+    for value in ignored.values {
+        if value.code == MetaCode::BadProperty {
+            show_value(page, ignored, value, times)?;
+            times = times.saturating_add(1);
+        }
+    }
+    Ok(times)
+}
+
+/// Adds what is ignored in a document: the properties that their objects don't have, and the values that aren't permitted. Warnings of
+/// resources, and of names with escapes, are counted.
+pub(crate) fn show_ignored(page: &mut Page, ignored: &Ignored<'_>) -> Result<(), AllocError> {
+    if ignored.times == 0 {
         return Ok(());
     }
-    let placed = show_unknown(page, path, bytes)?;
+    let placed = show_unknown(page, ignored.path, ignored.bytes)?;
     if placed == 0 {
         page.begin_warnings()?;
     }
-    match ignored.saturating_sub(placed) {
+    let values = show_values(page, ignored)?;
+    let shown = placed.saturating_add(values as u64);
+    match ignored.times.saturating_sub(shown) {
         0 => Ok(()),
-        times => page.unplaced(path, times),
+        times => page.unplaced(ignored.path, times),
     }
 }

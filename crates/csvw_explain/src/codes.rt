@@ -5,7 +5,7 @@
 /// them.
 pub(crate) const CODES: &str = r##"## UnknownProperty (warning)
 
-A property of the document is not in the vocabulary. It is ignored.
+A property of the document is not in the vocabulary. It is ignored. With `--profile w3c` a property whose value is of a wrong kind is ignored with this warning, too, unless the property is needed. `csvw check` shows where it is.
 
 Example:
 
@@ -384,7 +384,7 @@ Section: Metadata Vocabulary, section 5.2.
 
 ## BadProperty (fault of a document)
 
-A value is of a wrong kind, is empty or below its range, or a property that is needed is missing. A resource that is no object has this code, too.
+A value is of a wrong kind, is empty or below its range, or a property that is needed is missing. A resource that is no object has this code, too. With `--profile w3c` most properties with values of a wrong kind are ignored with the warning `UnknownProperty` instead.
 
 Example:
 
@@ -443,7 +443,7 @@ Example:
     metadata.json: {"@context":"http://www.w3.org/ns/csvw","url":"t.csv","tableSchema":{"columns":[{"name":"n","datatype":"duration"}]}}
     t.csv: n\n1\n
 
-Instead: Leave it out, or write what is supported: `--profile w3c` for more datatypes, regular expressions and `rowTitles`, with `--resource URL=FILE` for a schema or a dialect by its URL, `"minimum": "0.5"` for 0.5.
+Instead: Leave it out, or write what is supported: `--profile w3c` for more datatypes, regular expressions and `rowTitles`, with `--resource URL=FILE` for a schema or a dialect by its URL, `"minimum": "0.5"` for 0.5 in the profile core.
 
 Section: Metadata Vocabulary, section 5. Model for Tabular Data, section 6.4.6.
 

@@ -290,12 +290,20 @@ pub(crate) fn push_unknown(page: &mut String, shown: &UnknownShown<'_>) -> Resul
     push_pointer(page, shown.pointer)?;
     page.push_str("</p>\n")?;
     push_name(page, "warning", "UnknownProperty")?;
+    push_reason(page, shown)?;
+    push_meant(page, shown.meant)?;
+    page.push_str("</article>\n")
+}
+
+/// Adds why a property is ignored.
+fn push_reason(page: &mut String, shown: &UnknownShown<'_>) -> Result<(), AllocError> {
+    if let Meant::Value = shown.meant {
+        return page.push_str("The value isn’t permitted, so it is ignored</p>\n");
+    }
     page.push_str("“")?;
     push_clipped(page, shown.name)?;
     let object = shown.object;
-    write!(page, "” isn’t a property of {object}</p>\n")?;
-    push_meant(page, shown.meant)?;
-    page.push_str("</article>\n")
+    write!(page, "” isn’t a property of {object}</p>\n")
 }
 
 /// Adds where the name of a property is in its document, if it is known.
@@ -310,7 +318,7 @@ fn push_character(page: &mut String, shown: &UnknownShown<'_>) -> Result<(), All
 /// Adds what is meant by the name of a property, if it is known.
 fn push_meant(page: &mut String, meant: Meant) -> Result<(), AllocError> {
     match meant {
-        Meant::Nothing => Ok(()),
+        Meant::Nothing | Meant::Value => Ok(()),
         Meant::Name(name) => write!(page, "<p class=\"hint\">Did you mean “{name}”?</p>\n"),
         Meant::Object(object) => {
             write!(page, "<p class=\"hint\">It is a property of {object}</p>\n")

@@ -155,11 +155,18 @@ pub(crate) fn push_fault(lines: &mut String, shown: &FaultShown<'_>) -> Result<(
     push_object(lines, &members, None, text)
 }
 
+/// What is told of a value that isn't permitted.
+const NOT_PERMITTED: &str =
+    "the value isn't permitted, so it is ignored: correct it, or leave it out";
+
 /// Returns what is wrong with a property that is ignored, and what is meant.
 fn unknown_sentence(alloc: Global, shown: &UnknownShown<'_>) -> Result<String, AllocError> {
+    if let Meant::Value = shown.meant {
+        return String::from_str(alloc, NOT_PERMITTED);
+    }
     let mut sentence = Code::UnknownProperty.to_string(alloc)?;
     match shown.meant {
-        Meant::Nothing => {}
+        Meant::Nothing | Meant::Value => {}
         Meant::Name(name) => write!(sentence, ": did you mean \"{name}\"?")?,
         Meant::Object(object) => write!(sentence, ": it is a property of {object}")?,
     }

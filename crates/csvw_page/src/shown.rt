@@ -69,11 +69,13 @@ pub(crate) fn kind_name(kind: Kind) -> &'static str {
     }
 }
 
-/// What is meant by the name of a property that is ignored, as far as it is known.
+/// Why a property is ignored, and what is meant by its name, as far as it is known.
 #[derive(Clone, Copy)]
 pub enum Meant {
-    /// It isn't known.
+    /// Its object doesn't have it. What is meant isn't known.
     Nothing,
+    /// Its object has it, but its value isn't permitted.
+    Value,
     /// The property of this name, which is near.
     Name(&'static str),
     /// The property of the same name in this object.

@@ -175,11 +175,19 @@ pub(crate) fn push_unknown(
     push_property(lines, shown.pointer)?;
     push_ignored(lines, color)?;
     lines.push_str(": ")?;
-    push_quoted(lines, shown.name)?;
-    let object = shown.object;
-    write!(lines, " isn't a property of {object}")?;
-    push_meant(lines, shown.meant)?;
+    push_reason(lines, shown)?;
     lines.push('\n')
+}
+
+/// Adds why a property is ignored, and what is meant.
+fn push_reason(line: &mut String, shown: &UnknownShown<'_>) -> Result<(), AllocError> {
+    if let Meant::Value = shown.meant {
+        return line.push_str("the value isn't permitted, so it is ignored");
+    }
+    push_quoted(line, shown.name)?;
+    let object = shown.object;
+    write!(line, " isn't a property of {object}")?;
+    push_meant(line, shown.meant)
 }
 
 /// Adds the JSON Pointer of a property behind a colon, if it is known.
@@ -204,7 +212,7 @@ fn push_character(line: &mut String, shown: &UnknownShown<'_>) -> Result<(), All
 /// Adds what is meant by the name of a property, if it is known.
 fn push_meant(line: &mut String, meant: Meant) -> Result<(), AllocError> {
     match meant {
-        Meant::Nothing => Ok(()),
+        Meant::Nothing | Meant::Value => Ok(()),
         Meant::Name(name) => write!(line, ": did you mean \"{name}\"?"),
         Meant::Object(object) => write!(line, ", but of {object}"),
     }

@@ -29,9 +29,7 @@ const REFUSED: &[File<'static>] = &[File {
 "maxInclusive":"P30D"}},
 {"name":"c10","datatype":{"base":"dayTimeDuration",
 "minExclusive":"P1M"}},
-{"name":"c11","datatype":{"base":"decimal",
-"maximum":0.5}},
-{"name":"c12","datatype":{"base":"QName",
+{"name":"c11","datatype":{"base":"QName",
 "minimum":"a:b"}}]}}"#,
 }];
 
@@ -59,9 +57,7 @@ m.json:21:1: /tableSchema/columns/9/datatype/maxInclusive: BadDatatype: the data
     a bound is a duration of years and months, as "P1Y2M"
 m.json:23:1: /tableSchema/columns/10/datatype/minExclusive: BadDatatype: the datatype cannot have this format or these facets
     a bound is a duration without years and months, as "PT36H"
-m.json:25:1: /tableSchema/columns/11/datatype/maximum: NotSupported: this part of the vocabulary is not supported: leave it out
-    a number that isn't whole is written as a text, as "0.5"
-m.json:27:1: /tableSchema/columns/12/datatype/minimum: BadDatatype: the datatype cannot have this format or these facets
+m.json:25:1: /tableSchema/columns/11/datatype/minimum: BadDatatype: the datatype cannot have this format or these facets
     the values of this datatype have no order: leave the bound out
 "#;
 
