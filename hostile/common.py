@@ -78,6 +78,10 @@ OCTETS = """{"@context":"http://www.w3.org/ns/csvw","url":"o.csv","tableSchema":
 {"name":"name","datatype":"QName"},
 {"name":"note","datatype":"normalizedString"}]}}"""
 
+SPOILED = """{"@context":"http://www.w3.org/ns/csvw","url":"d.csv","notes":5,"lang":7,"dialect":[],"tableSchema":{"primaryKey":{},"columns":[5,
+{"name":"id","ordered":"yes","titles":["id",6],"datatype":{"base":"integer","minimum":true,"format":{"groupChar":5}}},
+{"name":"name","required":0,"titles":{"en":"name","x y":7},"null":["-",8],"default":null}]}}"""
+
 # The small files of the groups that are not in examples/.
 FILES = {
     "keys/meta.json": KEYS,
@@ -108,6 +112,8 @@ FILES = {
     "octets/meta.json": OCTETS,
     "octets/o.csv": f"took,sums,data,name,note\nP1Y14M2DT3H61M5.{'10' * 4}S,{'0fb7' * 20};0f,{'T W F u ' * 16},{'iso' * 20}:code,\"a\t{'b  ' * 20}\nc\"\n"
                     "5 days,0fb,TR==,a:b:c,\n",
+    "spoiled/meta.json": SPOILED,
+    "spoiled/d.csv": "id,name\n1,a\n2,-\n1,\nx,b\n",
     "ragged.csv": "id\n1\n2\n3,4\n",
     "empty.csv": "",
 }
@@ -147,6 +153,8 @@ RUNS = [
     Run("resources", group(f"convert {RESOURCES}", "linked", "l.csv")),
     Run("resources, validate", group(f"validate {RESOURCES}", "linked", "l.csv")),
     Run("a resource that can't be used", group("validate --profile w3c --resource http://example.org/s.json=linked/l.csv", "linked", "l.csv")),
+    Run("values that aren't permitted", group("convert --profile w3c", "spoiled", "d.csv")),
+    Run("values that aren't permitted, validate", group("validate --profile w3c", "spoiled", "d.csv")),
     Run("a document that is refused", group("convert", "twice", "prices.csv", "prices.csv")),
     Run("too few files", group("convert", "rivers", "stations.csv")),
     Run("help", ["--help"]),
