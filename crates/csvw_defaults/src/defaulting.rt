@@ -6,7 +6,7 @@ ghost use Rattle.serde_json.specs.Data.{depth};
 ghost use Rattle.serde_json.specs.Read.{max_depth};
 ghost use Rattle.serde_json.specs.View.{view};
 ghost use Rattle.csvw_meta.specs.Json.{json_of, without_bom};
-ghost use Rattle.csvw_defaults.specs.Documents.{IsDefaulted, IsLeftOf, IsOf, of_json};
+ghost use Rattle.csvw_defaults.specs.Documents.{AreBytesOf, IsDefaulted, IsLeftOf, IsOf, of_json};
 ghost use Rattle.csvw_defaults.specs.Ignored.{document};
 ghost use Rattle.csvw_defaults.specs.Sources.{source_in, source_of};
 
@@ -34,7 +34,7 @@ pub struct Defaulted {
 /// Returns the bytes of what is left of a document. They begin with U+FEFF, which readers drop.
 fn bytes_of(alloc: Global, value: &Value) -> Result<Vec<u8>, AllocError>
     requires { depth (view value.now) ≤ max_depth }
-    ensures { IfOk result (λ bytes. json_of (without_bom bytes.items) ≡ Some (view value.now)) }
+    ensures { IfOk result (λ bytes. AreBytesOf (view value.now) bytes.items) }
 {
     let text = value.to_string(alloc)?;
     let mut bytes = Vec::from_slice(alloc, b"\xEF\xBB\xBF")?;
