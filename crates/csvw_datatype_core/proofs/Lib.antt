@@ -14,6 +14,8 @@ mod DateLemmas
 mod PartLemmas
 mod PatternLemmas
 mod OneDatePart
+mod OneDayText
+mod DayStarts
 mod OneDateTime
 mod OneTime
 mod SubtagLemmas
@@ -24,6 +26,7 @@ mod LawfulLemmas
 mod OneValue
 mod OneText
 mod OneNumberText
+mod ExponentLemmas
 mod FormLemmas
 mod EveryDay
 mod ValueLemmas
@@ -33,4 +36,8 @@ mod DateTimeLemmas
 mod PartFieldLemmas
 mod StampLemmas
 mod StampFormatLemmas
+mod ZoneLemmas
+mod ClockFormatLemmas
+mod OffsetLemmas
 mod ClockLemmas
+mod ZonedDateLemmas

@@ -1,4 +1,4 @@
--- The text of a year, month or day is its own text. The check doesn't find it by itself: it needs induction on the text before the zone.
+-- The text of a year or a month is its own text. The check doesn't find it by itself: it needs induction on the text before the zone.
 use Rattle.std.proofs.Common.{◌≡◌, ◌≢◌, ℕ, suc, ◌-◌, Bool, true, false, ◌&&◌, ◌==◌, ◌||◌, Option, Some, None, if◌then◌else◌}
 use Rattle.std.proofs.Common.{List, [], ◌∷◌, ◌++◌, length, drop, take, bytes_eq, refl, sym, ap, subst, ◌∙◌, arith, append_assoc, append-nil, length-append}
 use Rattle.std.specs.Prelude.{nat_lt, nat_le, codes}
@@ -15,8 +15,8 @@ use Rattle.csvw_datatype_core.specs.declared.date_part.DatePart.{DatePart}
 use Rattle.csvw_datatype_core.specs.declared.date_part.DatePart.TheVariants as parts
 use Rattle.csvw_datatype_core.specs.Fields.{◌>>=◌, after_separator, two_at, at_end}
 use Rattle.csvw_datatype_core.specs.DateParts.{digit_count, is_year, after_digits, after_year, up_to, number_at, days_of, after_part}
-use Rattle.csvw_datatype_core.specs.DateParts.{offset_fields, are_offset, is_empty, is_zone, has_zone, ends_part, is_date_part, after_start}
-use Rattle.csvw_datatype_core.specs.DateParts.{before_ending, year_and_rest, front_and_zone, either, plain_year, plain_zone, plain, date_part_form}
+use Rattle.csvw_datatype_core.specs.DateParts.{offset_fields, are_offset, is_empty, is_zone, ends_part, is_date_part, after_start}
+use Rattle.csvw_datatype_core.specs.DateParts.{before_ending, year_and_rest, front_and_zone, either, plain_year, plain_zone, plain, plain_form}
 use Rattle.csvw_datatype_core.proofs.DateLemmas.{two_sound, two_again, bind_some, bind_number, separator_sound, end_sound}
 use Rattle.csvw_datatype_core.proofs.PartLemmas.{begins, ends, without_start, without_ending}
 
@@ -326,23 +326,16 @@ zone_kept : (u front r : List ℕ) (s : Bool) → u ++ zero_offset s ≡ front +
 zone_kept u front [] s e h z = absurd (no_offset u front [] s e h tt)
 zone_kept u front (b ∷ bs) s e h z = zone_by u front b bs s (b == 90) e h refl z
 
-end_kept : (u front r : List ℕ) (s t : Bool) → u ++ zero_offset s ≡ front ++ r → NoColon front → (if t then is_zone r else is_empty r) ≡ true
-    → (u ≡ front) × (t ≡ true)
-end_kept u front r s true e h z = (zone_kept u front r s e h z, refl)
-end_kept u front [] s false e h z = absurd (no_offset u front [] s e h tt)
-end_kept u front (b ∷ bs) s false e h z = cc
-
 abbrev z : List ℕ
 z = 90 ∷ []
 
 -- a text with "Z" for the offset 0 is written as the part is
-with_z : (part : DatePart) (u : List ℕ) (s : Bool) (o : Option (List ℕ)) → after_part part (u ++ zero_offset s) ≡ o → ends_part part o ≡ true
+with_z : (part : DatePart) (u : List ℕ) (s : Bool) (o : Option (List ℕ)) → after_part part (u ++ zero_offset s) ≡ o → ends_part o ≡ true
     → is_date_part part (u ++ z) ≡ true
 with_z part u s None e h = cc
 with_z part u s (Some r) e h =
     let p = part_sound part (u ++ zero_offset s) r e in
-    let k = end_kept u p.front r s (has_zone part) p.text p.no_colon h in
-    ap (λ t. is_date_part part (t ++ z)) k.0 ∙ ap (ends_part part) (p.again z refl) ∙ ap (λ t. if t then is_zone z else is_empty z) k.1
+    ap (λ t. is_date_part part (t ++ z)) (zone_kept u p.front r s p.text p.no_colon h) ∙ ap ends_part (p.again z refl)
 
 abbrev zero_year : List ℕ
 zero_year = 45 ∷ 48 ∷ 48 ∷ 48 ∷ 48 ∷ []
@@ -388,7 +381,7 @@ z_no_year u s h rest e =
     h (x.0 ++ zero_offset s) (ap (λ t. t ++ zero_offset s) x.1 ∙ append_assoc zero_year x.0 (zero_offset s))
 
 -- a text with neither is its own text
-fixed : (part : DatePart) (form : List ℕ) → is_date_part part form ≡ true → NoZeroYear form → NoZeroOffset form → date_part_form part form ≡ Some form
+fixed : (part : DatePart) (form : List ℕ) → is_date_part part form ≡ true → NoZeroYear form → NoZeroOffset form → plain_form part form ≡ Some form
 fixed part form is year offset =
     let a : None ≡ after_start (codes "-0000") form = without_start (codes "-0000") form _ year refl in
     let b : None ≡ before_ending (codes "+00:00") form = without_ending (codes "+00:00") form _ (λ front. offset front true) refl in
@@ -401,7 +394,7 @@ fixed part form is year offset =
     ∙ ap (λ (x : List ℕ × List ℕ). ([] ++ x.0) ++ x.1) e ∙ append-nil form)
 
 z_fixed : (part : DatePart) (u : List ℕ) (s : Bool) → is_date_part part (u ++ zero_offset s) ≡ true → NoZeroYear (u ++ zero_offset s)
-    → date_part_form part (u ++ z) ≡ Some (u ++ z)
+    → plain_form part (u ++ z) ≡ Some (u ++ z)
 z_fixed part u s is year =
     fixed part (u ++ z) (with_z part u s (after_part part (u ++ zero_offset s)) refl is) (z_no_year u s year) (z_no_offset u)
 
@@ -431,25 +424,25 @@ abbrev Grows : List ℕ → List ℕ → Type 0
 Grows y rest = (front : List ℕ) (s : Bool) → y ++ rest ≡ front ++ zero_offset s → (f : List ℕ) × (rest ≡ f ++ zero_offset s)
 
 offset_fixed : (part : DatePart) (y rest f : List ℕ) (s : Bool) → rest ≡ f ++ zero_offset s → is_date_part part (y ++ rest) ≡ true
-    → NoZeroYear (y ++ rest) → date_part_form part ((y ++ f) ++ z) ≡ Some ((y ++ f) ++ z)
+    → NoZeroYear (y ++ rest) → plain_form part ((y ++ f) ++ z) ≡ Some ((y ++ f) ++ z)
 offset_fixed part y rest f s e is year =
     let text : y ++ rest ≡ (y ++ f) ++ zero_offset s = ap (λ t. y ++ t) e ∙ sym (append_assoc y f (zero_offset s)) in
     z_fixed part (y ++ f) s (subst (λ t. is_date_part part t ≡ true) text is) (subst (λ t. NoZeroYear t) text year)
 
 body_by : (part : DatePart) (y rest : List ℕ) (o p : Option (List ℕ)) → before_ending (zero_offset true) rest ≡ o
     → before_ending (zero_offset false) rest ≡ p → is_date_part part (y ++ rest) ≡ true → NoZeroYear (y ++ rest) → Grows y rest
-    → date_part_form part (joined y (front_and_zone rest (either o p))) ≡ Some (joined y (front_and_zone rest (either o p)))
+    → plain_form part (joined y (front_and_zone rest (either o p))) ≡ Some (joined y (front_and_zone rest (either o p)))
 body_by part y rest (Some f) p e k is year grows = offset_fixed part y rest f true (ending_of true rest f e) is year
 body_by part y rest None (Some f) e k is year grows = offset_fixed part y rest f false (ending_of false rest f k) is year
 body_by part y rest None None e k is year grows =
     let none : NoZeroOffset (y ++ rest) = λ front s same. no_ending rest e k s (grows front s same).0 (grows front s same).1 in
-    subst (λ t. date_part_form part t ≡ Some t) (sym (append-nil (y ++ rest))) (fixed part (y ++ rest) is year none)
+    subst (λ t. plain_form part t ≡ Some t) (sym (append-nil (y ++ rest))) (fixed part (y ++ rest) is year none)
 
 abbrev written : List ℕ × List ℕ → List ℕ
 written x = joined x.0 (plain_zone x.1)
 
 body : (part : DatePart) (y rest : List ℕ) → is_date_part part (y ++ rest) ≡ true → NoZeroYear (y ++ rest) → Grows y rest
-    → date_part_form part (written (y, rest)) ≡ Some (written (y, rest))
+    → plain_form part (written (y, rest)) ≡ Some (written (y, rest))
 body part y rest is year grows = body_by part y rest _ _ refl refl is year grows
 
 -- the year "-0000" is read as "0000" is
@@ -487,14 +480,14 @@ zeros_no_year rest r e = let head : ◌≡◌ {A = ℕ} 48 45 = cc e in absurd (
 
 zeros_written : (part : DatePart) (text rest : List ℕ) → text ≡ zero_year ++ rest → is_date_part part text ≡ true
     → is_date_part part (zeros ++ rest) ≡ true
-zeros_written part text rest e is = ap (ends_part part) (sym (same_year part rest)) ∙ ap (is_date_part part) (sym e) ∙ is
+zeros_written part text rest e is = ap ends_part (sym (same_year part rest)) ∙ ap (is_date_part part) (sym e) ∙ is
 
 zeros_body : (part : DatePart) (text rest : List ℕ) → text ≡ zero_year ++ rest → is_date_part part text ≡ true
-    → date_part_form part (written (zeros, rest)) ≡ Some (written (zeros, rest))
+    → plain_form part (written (zeros, rest)) ≡ Some (written (zeros, rest))
 zeros_body part text rest e is = body part zeros rest (zeros_written part text rest e is) (zeros_no_year rest) (grows rest)
 
 abbrev Own : DatePart → List ℕ → Type 0
-Own part form = date_part_form part form ≡ Some form
+Own part form = plain_form part form ≡ Some form
 
 four_zeros : codes "0000" ≡ zeros
 four_zeros = refl
@@ -513,7 +506,7 @@ whole part text None e is = year_other part text e is
 whole part text (Some rest) e is = year_zero part text rest (year_of text rest e) is
 
 -- the text of a part of a date is its own text
-pub one_date_part_text : (part : DatePart) (text form : List ℕ) → date_part_form part text ≡ Some form → date_part_form part form ≡ Some form
-one_date_part_text part text form h =
+pub one_plain_text : (part : DatePart) (text form : List ℕ) → plain_form part text ≡ Some form → plain_form part form ≡ Some form
+one_plain_text part text form h =
     let g = cond_some (is_date_part part text) (plain text) form h in
-    subst (λ t. date_part_form part t ≡ Some t) g.1 (whole part text (after_start zero_year text) refl g.0)
+    subst (λ t. plain_form part t ≡ Some t) g.1 (whole part text (after_start zero_year text) refl g.0)

@@ -34,7 +34,7 @@ use Rattle.csvw_datatype_core.proofs.MomentLemmas.{moment_given}
 two_long : (ds : List ℕ) → (length ds ≡ 2) ⊎ (⊥ × (length ds ≡ 1)) → length ds ≡ 2
 two_long ds h = elim h [ inl e ↦ e | inr p ↦ absurd p.0 ]
 
-date_long : (text : List ℕ) (day : ℤ) → ReadsDate YearFirst text day → length text ≡ 10
+pub date_long : (text : List ℕ) (day : ℤ) → ReadsDate YearFirst text day → length text ≡ 10
 date_long text day r =
     ap length r.spelled
     ∙ omega (
@@ -124,33 +124,36 @@ zone_again : (b : Bool) → zone_at (ending b) ≡ Some (minutes_of b)
 zone_again true = refl
 zone_again false = refl
 
-no_digit : (b : Bool) → digit_count (ending b) ≡ 0
-no_digit true = refl
-no_digit false = refl
+-- a text that no digit of a second begins, and no point
+abbrev pub IsRest : List ℕ → Type 0
+IsRest rest = (digit_count rest ≡ 0) × (fraction_at rest ≡ Some ([], rest))
 
-count_again : (b : Bool) (ds : List ℕ) → AreDigits ds → digit_count (ds ++ ending b) ≡ length ds
-count_again b [] h = no_digit b
-count_again b (d ∷ ds) h = count_digit d (ds ++ ending b) h.0 ∙ ap suc (count_again b ds h.1)
+count_again : (rest ds : List ℕ) → digit_count rest ≡ 0 → AreDigits ds → digit_count (ds ++ rest) ≡ length ds
+count_again rest [] none h = none
+count_again rest (d ∷ ds) none h = count_digit d (ds ++ rest) h.0 ∙ ap suc (count_again rest ds none h.1)
 
 abbrev split_as : List ℕ → List ℕ → Option (List ℕ × List ℕ)
 split_as front back = Some (front, back)
 
-digits_again : (b : Bool) (d : ℕ) (ds : List ℕ) → AreDigits (d ∷ ds) → digits_at ((d ∷ ds) ++ ending b) ≡ Some (d ∷ ds, ending b)
-digits_again b d ds h =
-    let bs = (d ∷ ds) ++ ending b in
-    let count = count_again b (d ∷ ds) h in
+digits_again : (rest : List ℕ) (d : ℕ) (ds : List ℕ) → digit_count rest ≡ 0 → AreDigits (d ∷ ds) → digits_at ((d ∷ ds) ++ rest) ≡ Some (d ∷ ds, rest)
+digits_again rest d ds none h =
+    let bs = (d ∷ ds) ++ rest in
+    let count = count_again rest (d ∷ ds) none h in
     let some : (digit_count bs == 0) ≡ false = grind (arith, nat_tests, count) in
     rw some
-    (ap (λ n. split_as (take n bs) (drop n bs)) count ∙ ap (λ l. split_as l (drop (length (d ∷ ds)) bs)) (take-append_seam (d ∷ ds) (ending b))
-    ∙ ap (λ l. split_as (d ∷ ds) l) (drop-append_seam (d ∷ ds) (ending b)))
+    (ap (λ n. split_as (take n bs) (drop n bs)) count ∙ ap (λ l. split_as l (drop (length (d ∷ ds)) bs)) (take-append_seam (d ∷ ds) rest)
+    ∙ ap (λ l. split_as (d ∷ ds) l) (drop-append_seam (d ∷ ds) rest))
 
-no_fraction : (b : Bool) → fraction_at (ending b) ≡ Some ([], ending b)
-no_fraction true = refl
-no_fraction false = refl
+pub fraction_before : (rest ds : List ℕ) → IsRest rest → AreDigits ds → fraction_at (fraction_text ds ++ rest) ≡ Some (ds, rest)
+fraction_before rest [] none h = none.1
+fraction_before rest (d ∷ ds) none h = digits_again rest d ds none.0 h
+
+is_rest : (b : Bool) → IsRest (ending b)
+is_rest true = (refl, refl)
+is_rest false = (refl, refl)
 
 pub fraction_again : (b : Bool) (ds : List ℕ) → AreDigits ds → fraction_at (fraction_text ds ++ ending b) ≡ Some (ds, ending b)
-fraction_again b [] h = no_fraction b
-fraction_again b (d ∷ ds) h = digits_again b d ds h
+fraction_again b ds h = fraction_before (ending b) ds (is_rest b) h
 
 -- ---- the parts of the text
 

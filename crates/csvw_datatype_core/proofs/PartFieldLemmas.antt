@@ -1,7 +1,7 @@
 -- The text of a year is ASCII, and a text has fields exactly if it is a part of a date. The search doesn't split the text, nor the options of a chain.
 use Rattle.std.proofs.Common.{◌≡◌, ℕ, zero, suc, ◌-◌, ◌<◌, ◌≤◌, ◌==◌, Bool, true, false, ◌&&◌, ◌||◌, Option, Some, None, if◌then◌else◌, ℤ}
 use Rattle.std.proofs.Common.{List, [], ◌∷◌, length, drop, take, refl, sym, ap, subst, ◌∙◌, arith}
-use Rattle.std.specs.Option.{is_some}
+use Rattle.std.specs.Option.{is_some, option_map}
 use Rattle.std.specs.Char.{is_ascii_digit}
 use Rattle.std.specs.List.{prefix_len}
 use Rattle.std.specs.Str.{IsAscii}
@@ -12,11 +12,13 @@ use Rattle.csvw_datatype_core.specs.declared.date_part.DatePart.{DatePart}
 use Rattle.csvw_datatype_core.specs.declared.date_part.DatePart.TheVariants as parts
 use Rattle.csvw_datatype_core.specs.Fields.{◌>>=◌, option_view, after_separator}
 use Rattle.csvw_datatype_core.specs.DateParts.{digit_count, is_year, after_digits, after_year, number_at, days_of, after_part, is_offset, offset_fields}
-use Rattle.csvw_datatype_core.specs.DateParts.{are_offset, is_empty, is_zone, is_end, ends_part, is_date_part, plain, date_part_form}
+use Rattle.csvw_datatype_core.specs.DateParts.{are_offset, is_empty, is_zone, ends_part, is_date_part, plain, plain_form}
 use Rattle.csvw_datatype_core.specs.DateTimes.{at_utc, east, west, minutes_of, zone_at}
-use Rattle.csvw_datatype_core.specs.PartFields.{before, end_zone, fields_at, no_zone, part_fields}
+use Rattle.csvw_datatype_core.specs.PartFields.{before, fields_at, part_fields}
 use Rattle.csvw_datatype_core.proofs.DateTimeLemmas.{digits_ascii}
+use Rattle.csvw_datatype_core.specs.PartForms.{day_form, date_part_form}
 use Rattle.csvw_datatype_core.proofs.OneDatePart as law
+use Rattle.csvw_datatype_core.proofs.OneDayText.{IsDays, one_day_text}
 
 -- ---- the text of a year
 
@@ -127,17 +129,6 @@ zone_is : (bs : List ℕ) → is_some (zone_at bs) ≡ is_zone bs
 zone_is [] = refl
 zone_is (b ∷ bs) = zone_by (b == 90) (b == 43) (b == 45) bs (offset_fields bs)
 
-no_zone_is : (bs : List ℕ) → is_some (no_zone bs) ≡ is_empty bs
-no_zone_is [] = refl
-no_zone_is (b ∷ bs) = refl
-
-end_is : (part : DatePart) (bs : List ℕ) → is_some (end_zone part bs) ≡ is_end part bs
-end_is parts.Year bs = zone_is bs
-end_is parts.YearMonth bs = zone_is bs
-end_is parts.Month bs = zone_is bs
-end_is parts.MonthDay bs = no_zone_is bs
-end_is parts.Day bs = no_zone_is bs
-
 -- ---- the law
 
 some_bind : {A B : Type 0} (o : Option A) (f : A → B) → is_some (o >>= (λ x. Some (f x))) ≡ is_some o
@@ -147,15 +138,29 @@ some_bind (Some x) f = refl
 abbrev with_zone : List ℕ × ℕ × ℕ × List ℕ → Option ℤ → List ℕ × ℕ × ℕ × Option ℤ
 with_zone x zone = (x.0, x.1, x.2, zone)
 
-fields_end : (part : DatePart) (o : Option (List ℕ × ℕ × ℕ × List ℕ))
-    → is_some (o >>= (λ x. end_zone part x.3 >>= (λ zone. Some (with_zone x zone)))) ≡ ends_part part (option_view rest_of o)
-fields_end part None = refl
-fields_end part (Some x) = some_bind (end_zone part x.3) (with_zone x) ∙ end_is part x.3
+fields_end : (o : Option (List ℕ × ℕ × ℕ × List ℕ))
+    → is_some (o >>= (λ x. zone_at x.3 >>= (λ zone. Some (with_zone x zone)))) ≡ ends_part (option_view rest_of o)
+fields_end None = refl
+fields_end (Some x) = some_bind (zone_at x.3) (with_zone x) ∙ zone_is x.3
 
 pub has_fields : (part : DatePart) (text : List ℕ) → is_some (part_fields part text) ≡ is_date_part part text
 unfolding part_fields
-has_fields part text = fields_end part (fields_at part text) ∙ ap (λ o. ends_part part o) (same_rest part text)
+has_fields part text = fields_end (fields_at part text) ∙ ap (λ o. ends_part o) (same_rest part text)
+
+plain_has_fields : (part : DatePart) (text form : List ℕ) → plain_form part text ≡ Some form → is_some (part_fields part form) ≡ true
+plain_has_fields part text form h =
+    has_fields part form ∙ (cond_some (is_date_part part form) (plain form) form (law.one_plain_text part text form h)).0
+
+mapped_some : {A B : Type 0} (f : A → B) (o : Option A) (y : B) → option_map f o ≡ Some y → is_some o ≡ true
+mapped_some f None y h = cc
+mapped_some f (Some x) y h = refl
+
+day_has_fields : (part : DatePart) → IsDays part → (text form : List ℕ) → day_form part text ≡ Some form → is_some (part_fields part form) ≡ true
+day_has_fields part days text form h = mapped_some _ (part_fields part form) form (one_day_text part days text form h)
 
 pub form_has_fields : (part : DatePart) (text form : List ℕ) → date_part_form part text ≡ Some form → is_some (part_fields part form) ≡ true
-form_has_fields part text form h =
-    has_fields part form ∙ (cond_some (is_date_part part form) (plain form) form (law.one_date_part_text part text form h)).0
+form_has_fields parts.Year text form h = plain_has_fields parts.Year text form h
+form_has_fields parts.YearMonth text form h = plain_has_fields parts.YearMonth text form h
+form_has_fields parts.Month text form h = plain_has_fields parts.Month text form h
+form_has_fields parts.MonthDay text form h = day_has_fields parts.MonthDay tt text form h
+form_has_fields parts.Day text form h = day_has_fields parts.Day tt text form h

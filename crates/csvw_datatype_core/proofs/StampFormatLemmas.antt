@@ -81,7 +81,7 @@ with_more : (b x : ℕ) (xs : List ℕ) (y : ℕ) (ys : List ℕ) → first_kept
 with_more b x [] y ys = refl
 with_more b x (z ∷ zs) y ys = refl
 
-stays_after : (b : ℕ) (xs : List ℕ) (y : ℕ) (ys : List ℕ) → without b (y ∷ ys) ≡ y ∷ ys → without b (xs ++ (y ∷ ys)) ≡ xs ++ (y ∷ ys)
+pub stays_after : (b : ℕ) (xs : List ℕ) (y : ℕ) (ys : List ℕ) → without b (y ∷ ys) ≡ y ∷ ys → without b (xs ++ (y ∷ ys)) ≡ xs ++ (y ∷ ys)
 stays_after b [] y ys h = h
 stays_after b (x ∷ xs) y ys h = ap (λ l. first_kept b x l) (stays_after b xs y ys h) ∙ with_more b x xs y ys
 
@@ -270,27 +270,33 @@ removed_from b whole bs front e h = sym (removed b front) ∙ ap (λ (l : List �
 
 -- ---- what is before the zone and the digits
 
+pub pattern_plain : (l : Letter) (t : TimeFormat) → without (letter_byte l) (time_pattern t) ≡ time_pattern t
+pattern_plain symbols.Parts times.Seconds = refl
+pattern_plain symbols.Parts times.CompactSeconds = refl
+pattern_plain symbols.Parts times.Minutes = refl
+pattern_plain symbols.Parts times.CompactMinutes = refl
+pattern_plain symbols.Point times.Seconds = refl
+pattern_plain symbols.Point times.CompactSeconds = refl
+pattern_plain symbols.Point times.Minutes = refl
+pattern_plain symbols.Point times.CompactMinutes = refl
+pattern_plain symbols.Gap times.Seconds = refl
+pattern_plain symbols.Gap times.CompactSeconds = refl
+pattern_plain symbols.Gap times.Minutes = refl
+pattern_plain symbols.Gap times.CompactMinutes = refl
+pattern_plain symbols.Upper times.Seconds = refl
+pattern_plain symbols.Upper times.CompactSeconds = refl
+pattern_plain symbols.Upper times.Minutes = refl
+pattern_plain symbols.Upper times.CompactMinutes = refl
+pattern_plain symbols.Lower times.Seconds = refl
+pattern_plain symbols.Lower times.CompactSeconds = refl
+pattern_plain symbols.Lower times.Minutes = refl
+pattern_plain symbols.Lower times.CompactMinutes = refl
+
 time_plain : (l : Letter) (t : TimeFormat) → without (letter_byte l) (32 ∷ time_pattern t) ≡ 32 ∷ time_pattern t
-time_plain symbols.Parts times.Seconds = refl
-time_plain symbols.Parts times.CompactSeconds = refl
-time_plain symbols.Parts times.Minutes = refl
-time_plain symbols.Parts times.CompactMinutes = refl
-time_plain symbols.Point times.Seconds = refl
-time_plain symbols.Point times.CompactSeconds = refl
-time_plain symbols.Point times.Minutes = refl
-time_plain symbols.Point times.CompactMinutes = refl
-time_plain symbols.Gap times.Seconds = refl
-time_plain symbols.Gap times.CompactSeconds = refl
-time_plain symbols.Gap times.Minutes = refl
-time_plain symbols.Gap times.CompactMinutes = refl
-time_plain symbols.Upper times.Seconds = refl
-time_plain symbols.Upper times.CompactSeconds = refl
-time_plain symbols.Upper times.Minutes = refl
-time_plain symbols.Upper times.CompactMinutes = refl
-time_plain symbols.Lower times.Seconds = refl
-time_plain symbols.Lower times.CompactSeconds = refl
-time_plain symbols.Lower times.Minutes = refl
-time_plain symbols.Lower times.CompactMinutes = refl
+time_plain l times.Seconds = ap (λ r. first_kept (letter_byte l) 32 r) (pattern_plain l times.Seconds)
+time_plain l times.CompactSeconds = ap (λ r. first_kept (letter_byte l) 32 r) (pattern_plain l times.CompactSeconds)
+time_plain l times.Minutes = ap (λ r. first_kept (letter_byte l) 32 r) (pattern_plain l times.Minutes)
+time_plain l times.CompactMinutes = ap (λ r. first_kept (letter_byte l) 32 r) (pattern_plain l times.CompactMinutes)
 
 joined_plain : (l : Letter) → (without (letter_byte l) (moment_pattern Seconds) ≡ moment_pattern Seconds)
     × (without (letter_byte l) (moment_pattern Minutes) ≡ moment_pattern Minutes)
@@ -305,19 +311,31 @@ moment_plain l Seconds = (joined_plain l).0
 moment_plain l Minutes = (joined_plain l).1
 moment_plain l (Spaced date time) = stays_after (letter_byte l) (date_pattern date) 32 (time_pattern time) (time_plain l time)
 
-front_kept : (l : Letter) (m : MomentFormat) (n : ℕ) → (83 == letter_byte l) ≡ false
-    → without (letter_byte l) (moment_pattern m ++ fraction_pattern n) ≡ moment_pattern m ++ fraction_pattern n
-front_kept l m zero e = gone_after (letter_byte l) (moment_pattern m) [] refl ∙ moment_plain l m ∙ sym (append-nil (moment_pattern m))
-front_kept l m (suc n) e =
-    let b = letter_byte l in
-    stays_after b (moment_pattern m) 46 (letters 83 (suc n)) (ap (λ r. first_kept b 46 r) (letters_other b 83 n e))
+-- a pattern that none of the letters ends
+abbrev pub IsFront : List ℕ → Type 0
+IsFront m = (l : Letter) → without (letter_byte l) m ≡ m
 
-front_plain : (m : MomentFormat) (n : ℕ) → IsPlain (moment_pattern m ++ fraction_pattern n)
-front_plain m n = record {
-  lower = front_kept symbols.Lower m n refl;
-  upper = front_kept symbols.Upper m n refl;
-  gap = front_kept symbols.Gap m n refl;
+front_kept : (l : Letter) (m : List ℕ) (n : ℕ) → (83 == letter_byte l) ≡ false → IsFront m
+    → without (letter_byte l) (m ++ fraction_pattern n) ≡ m ++ fraction_pattern n
+front_kept l m zero e p = gone_after (letter_byte l) m [] refl ∙ p l ∙ sym (append-nil m)
+front_kept l m (suc n) e p =
+    let b = letter_byte l in
+    stays_after b m 46 (letters 83 (suc n)) (ap (λ r. first_kept b 46 r) (letters_other b 83 n e))
+
+front_plain : (m : List ℕ) (n : ℕ) → IsFront m → IsPlain (m ++ fraction_pattern n)
+front_plain m n p = record {
+  lower = front_kept symbols.Lower m n refl p;
+  upper = front_kept symbols.Upper m n refl p;
+  gap = front_kept symbols.Gap m n refl p;
 }
+
+-- the zone and the digits are read again before such a pattern
+pub zone_after : (m : List ℕ) (n : ℕ) (zone : Option ZoneFormat) → IsFront m
+    → zone_split ((m ++ fraction_pattern n) ++ zone_pattern zone) ≡ Some (m ++ fraction_pattern n, zone)
+zone_after m n zone p = zone_again (m ++ fraction_pattern n) zone (front_plain m n p)
+
+pub fraction_after : (m : List ℕ) (n : ℕ) → IsFront m → nat_le n 255 ≡ true → fraction_split (m ++ fraction_pattern n) ≡ Some (m, n)
+fraction_after m n p few = fraction_again m n (p symbols.Parts) (p symbols.Point) few
 
 -- ---- whether a pattern ends with the seconds
 
@@ -353,10 +371,10 @@ few : (f : StampFormat) → is_stamp f ≡ true → nat_le f.digits 255 ≡ true
 few f s = (and_parts (nat_le f.digits 255) (if f.digits == 0 then true else has_seconds f.moment) s).0
 
 zone_of : (bs : List ℕ) (f : StampFormat) → bs ≡ stamp_pattern f → zone_split bs ≡ Some (front_of f, f.zone)
-zone_of bs f e = ap zone_split e ∙ zone_again (front_of f) f.zone (front_plain f.moment f.digits)
+zone_of bs f e = ap zone_split e ∙ zone_after (moment_pattern f.moment) f.digits f.zone (λ l. moment_plain l f.moment)
 
 fraction_of : (f : StampFormat) → is_stamp f ≡ true → fraction_split (front_of f) ≡ Some (moment_pattern f.moment, f.digits)
-fraction_of f s = fraction_again (moment_pattern f.moment) f.digits (moment_plain symbols.Parts f.moment) (moment_plain symbols.Point f.moment) (few f s)
+fraction_of f s = fraction_after (moment_pattern f.moment) f.digits (λ l. moment_plain l f.moment) (few f s)
 
 pub never_zone : (bs : List ℕ) → None ≡ zone_split bs → (f : StampFormat) → is_stamp f ≡ true → bs ≢ stamp_pattern f
 never_zone bs h f s = λ e. let never = h ∙ zone_of bs f e in cc
@@ -396,8 +414,12 @@ never_stamp bs front last zone n m h k is fails f s = λ e.
     let never = sym fails ∙ ap (λ k. test k (has_seconds m)) digits ∙ ap (λ b. test f.digits b) seconds ∙ s in
     cc
 
-pub spelled : (bs front last : List ℕ) (zone : Option ZoneFormat) (n : ℕ) (m : MomentFormat) → Some (front, zone) ≡ zone_split bs
-    → Some (last, n) ≡ fraction_split front → last ≡ moment_pattern m → bs ≡ (moment_pattern m ++ fraction_pattern n) ++ zone_pattern zone
-spelled bs front last zone n m h k is =
+pub spelled_front : (bs front last m : List ℕ) (zone : Option ZoneFormat) (n : ℕ) → Some (front, zone) ≡ zone_split bs
+    → Some (last, n) ≡ fraction_split front → last ≡ m → bs ≡ (m ++ fraction_pattern n) ++ zone_pattern zone
+spelled_front bs front last m zone n h k is =
     zone_spelled bs front zone (sym h)
     ∙ ap (λ (l : List ℕ). l ++ zone_pattern zone) (fraction_spelled front last n (sym k) ∙ ap (λ (l : List ℕ). l ++ fraction_pattern n) is)
+
+pub spelled : (bs front last : List ℕ) (zone : Option ZoneFormat) (n : ℕ) (m : MomentFormat) → Some (front, zone) ≡ zone_split bs
+    → Some (last, n) ≡ fraction_split front → last ≡ moment_pattern m → bs ≡ (moment_pattern m ++ fraction_pattern n) ++ zone_pattern zone
+spelled bs front last zone n m h k is = spelled_front bs front last (moment_pattern m) zone n h k is

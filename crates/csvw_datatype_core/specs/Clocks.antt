@@ -1,81 +1,97 @@
--- Times of day with parts of a second: the patterns, the one text of each, and its second and digits (XML Schema 1.1 Part 2, section 3.3.8;
--- Model for Tabular Data, section 6.4.4).
-use Rattle.std.specs.Prelude.{ℕ, ◌==◌, ◌&&◌, not, nat_le, Bool, true, false, Option, Some, None, if◌then◌else◌, codes, List, [], ◌++◌, drop, take}
+-- Times of day with parts of a second and a zone: the patterns, what a text writes, and the one text of each value (XML Schema 1.1 Part 2, section
+-- 3.3.8 and appendix E.3; Model for Tabular Data, section 6.4.4).
+use Rattle.std.specs.Prelude.{ℕ, ◌-◌, ◌*◌, ◌/◌, ◌%◌, ◌==◌, ◌&&◌, nat_lt, nat_le, Bool, true, false, Option, Some, None, option_map, if◌then◌else◌}
+use Rattle.std.specs.Prelude.{codes, List, [], ◌++◌, drop, take, ℤ, pos, neg_ℤ, ◌+ℤ◌, ◌*ℤ◌, unsigned_abs}
 use Rattle.csvw_datatype_core.specs.declared.clock.ClockFormat.{ClockFormat}
 use Rattle.csvw_datatype_core.specs.declared.clock.ClockFormat.TheVariants as clocks
+use Rattle.csvw_datatype_core.specs.declared.clock.ClockPattern.{ClockPattern}
 use Rattle.csvw_datatype_core.specs.declared.time.TimeFormat.{TimeFormat}
 use Rattle.csvw_datatype_core.specs.declared.time.TimeFormat.TheVariants as times
-use Rattle.csvw_datatype_core.specs.DateTimes.{fraction_at, fraction_text, trimmed}
-use Rattle.csvw_datatype_core.specs.Fields.{◌>>=◌, at_end}
+use Rattle.csvw_datatype_core.specs.DateTimes.{fraction_at, fraction_text, trimmed, zone_at}
+use Rattle.csvw_datatype_core.specs.Fields.{◌>>=◌}
+use Rattle.csvw_datatype_core.specs.Instants.{Moment, placed_instant}
+use Rattle.csvw_datatype_core.specs.Offsets.{offset_text}
 use Rattle.csvw_datatype_core.specs.PatternLists.{time_format_of}
-use Rattle.csvw_datatype_core.specs.StampFormats.{fraction_pattern, fraction_split}
-use Rattle.csvw_datatype_core.specs.Stamps.{fraction_within}
-use Rattle.csvw_datatype_core.specs.Times.{clock_fields, clock_of, time_form, time_pattern}
+use Rattle.csvw_datatype_core.specs.StampFormats.{fraction_pattern, fraction_split, zone_pattern, zone_split}
+use Rattle.csvw_datatype_core.specs.Stamps.{ending_at, fraction_within, time_len}
+use Rattle.csvw_datatype_core.specs.Times.{clock, time_pattern}
 use Rattle.csvw_datatype_core.specs.Values.{time_value}
 
 -- ---- the patterns
 
+abbrev pub is_seconds : TimeFormat → Bool
+is_seconds times.Seconds = true
+is_seconds times.CompactSeconds = false
+is_seconds times.Minutes = false
+is_seconds times.CompactMinutes = false
+
+-- a pattern has up to 255 digits of a second, and they are after "HH:mm:ss"
+abbrev pub is_clock_pattern : ClockPattern → Bool
+is_clock_pattern p = nat_le p.digits 255 && (if p.digits == 0 then true else is_seconds p.time)
+
 -- a format for any number of digits has no pattern
 abbrev pub has_pattern : ClockFormat → Bool
-has_pattern (clocks.Whole time) = true
-has_pattern (clocks.Parts digits) = not (digits == 0) && nat_le digits 255
+has_pattern (clocks.Pattern p) = is_clock_pattern p
 has_pattern clocks.Any = false
 
 abbrev pub clock_pattern : ClockFormat → List ℕ
-clock_pattern (clocks.Whole time) = time_pattern time
-clock_pattern (clocks.Parts digits) = codes "HH:mm:ss" ++ fraction_pattern digits
+clock_pattern (clocks.Pattern p) = (time_pattern p.time ++ fraction_pattern p.digits) ++ zone_pattern p.zone
 clock_pattern clocks.Any = []
 
-abbrev pub parts_format : TimeFormat → ℕ → Option ClockFormat
-parts_format times.Seconds n = Some (clocks.Parts n)
-parts_format times.CompactSeconds n = None
-parts_format times.Minutes n = None
-parts_format times.CompactMinutes n = None
-
--- the format of a time of day with so many digits
-abbrev pub clock_format : TimeFormat → ℕ → Option ClockFormat
-clock_format time n = if n == 0 then Some (clocks.Whole time) else parts_format time n
+abbrev pub clock_if : ClockPattern → Option ClockFormat
+clock_if p = if is_clock_pattern p then Some (clocks.Pattern p) else None
 
 -- the format whose pattern the text is
 unfoldable pub clock_format_of : List ℕ → Option ClockFormat
 clock_format_of bs = do
-  f ← fraction_split bs
+  z ← zone_split bs
+  f ← fraction_split z.0
   time ← time_format_of f.0
-  clock_format time f.1
+  clock_if (record { time = time; digits = f.1; zone = z.1 })
 
--- ---- the texts
+-- ---- what a text writes
 
--- the digits at the end of a text, without the zeros at their end
-abbrev pub last_digits : List ℕ × List ℕ → Option (List ℕ)
-last_digits x = do
-  end ← at_end x.1
-  Some (trimmed x.0)
-
--- the digits after a point up to the end of a text; without a point there is no digit
-abbrev pub any_digits : List ℕ → Option (List ℕ)
-any_digits bs = fraction_at bs >>= last_digits
-
--- as much, with so many digits at most
-abbrev pub digits_within : ℕ → List ℕ → Option (List ℕ)
-digits_within most bs = fraction_within most bs >>= last_digits
-
--- the text of a time of day with these fields and digits
-unfoldable pub clock_with : Option (ℕ × ℕ × ℕ) → Option (List ℕ) → Option (List ℕ)
-clock_with fields digits = do
-  x ← fields
-  ds ← digits
-  front ← clock_of x
-  Some (front ++ fraction_text ds)
-
--- The one text of the time of day that a text writes. A time of day "HH:mm:ss" is eight bytes.
-abbrev pub clock_form : ClockFormat → List ℕ → Option (List ℕ)
-clock_form (clocks.Whole time) bs = time_form time bs
-clock_form (clocks.Parts most) bs = clock_with (clock_fields times.Seconds (take 8 bs)) (digits_within most (drop 8 bs))
-clock_form clocks.Any bs = clock_with (clock_fields times.Seconds (take 8 bs)) (any_digits (drop 8 bs))
-
--- the second of its day and the digits of its parts that a time of day is
-unfoldable pub clock_parts : List ℕ → Option (ℕ × List ℕ)
-clock_parts bs = do
+-- The second of its day, the digits of its parts without zeros at their end, and how many minutes the zone is ahead of "Z", if there is a zone.
+unfoldable pub clock_parts : ClockFormat → List ℕ → Option (ℕ × List ℕ × Option ℤ)
+clock_parts (clocks.Pattern p) bs = do
+  second ← time_value p.time (take (time_len p.time) bs)
+  fraction ← fraction_within p.digits (drop (time_len p.time) bs)
+  minutes ← ending_at p.zone fraction.1
+  Some (second, trimmed fraction.0, minutes)
+clock_parts clocks.Any bs = do
   second ← time_value times.Seconds (take 8 bs)
-  ds ← any_digits (drop 8 bs)
-  Some (second, ds)
+  fraction ← fraction_at (drop 8 bs)
+  minutes ← zone_at fraction.1
+  Some (second, trimmed fraction.0, minutes)
+
+-- the moment of a time of day on the time line, where all times of day are on one day
+abbrev pub clock_instant : List ℕ → Option Moment
+clock_instant bs = option_map (λ (x : ℕ × List ℕ × Option ℤ). placed_instant (pos x.0) x.1 x.2) (clock_parts clocks.Any bs)
+
+-- ---- the one text
+
+-- A zone is at most 14 hours ahead of "Z", or behind it. So the seconds of a time of day in the zone "Z" are counted from 14 hours before its day.
+abbrev pub zoned_second : ℕ → ℤ → ℕ
+zoned_second second minutes = unsigned_abs ((pos second +ℤ (minutes *ℤ neg_ℤ (pos 60))) +ℤ pos 50_400)
+
+-- The hour and the zone that are written. A time of day whose day is the same in the zone "Z" is in that zone. Another one is in the nearest zone of whole
+-- hours in which its day is the same: in the first hour of the day if it is on the day before, and in the last one if it is on the day after.
+abbrev pub zoned_hour : ℕ → ℕ
+zoned_hour h = if nat_lt h 14 then 0 else (if nat_lt h 38 then h - 14 else 23)
+
+abbrev pub zoned_minutes : ℕ → ℤ
+zoned_minutes h = if nat_lt h 14 then pos ((14 - h) * 60) else (if nat_lt h 38 then pos 0 else neg_ℤ (pos ((h - 37) * 60)))
+
+abbrev pub clock_in : ℕ → ℕ → List ℕ
+clock_in hour n = clock hour (n / 60 % 60) (n % 60)
+
+abbrev pub zoned_text : ℕ → List ℕ → List ℕ
+zoned_text n ds = clock_in (zoned_hour (n / 3600)) n ++ (fraction_text ds ++ offset_text (zoned_minutes (n / 3600)))
+
+abbrev pub clock_text : ℕ → List ℕ → Option ℤ → List ℕ
+clock_text second ds None = clock_in (second / 3600) second ++ fraction_text ds
+clock_text second ds (Some minutes) = zoned_text (zoned_second second minutes) ds
+
+-- the one text of the time of day that a text writes
+abbrev pub clock_form : ClockFormat → List ℕ → Option (List ℕ)
+clock_form format bs = option_map (λ (x : ℕ × List ℕ × Option ℤ). clock_text x.0 x.1 x.2) (clock_parts format bs)

@@ -1,4 +1,4 @@
--- Years, months and days alone: the texts that write one, and the one text of each (XML Schema 1.1 Part 2, sections 3.3.10 to 3.3.14).
+-- Years, months and days alone: the texts that write one, and the one text of years and months (XML Schema 1.1 Part 2, sections 3.3.10 to 3.3.14).
 use Rattle.std.specs.Prelude.{ℕ, ◌-◌, ◌==◌, ◌&&◌, ◌||◌, not, nat_lt, nat_le, Bool, true, false, Option, Some, None, if◌then◌else◌, codes}
 use Rattle.std.specs.Prelude.{List, [], ◌∷◌, ◌++◌, length, drop, take, bytes_eq}
 use Rattle.std.specs.List.{take_while}
@@ -95,24 +95,13 @@ abbrev pub is_zone : List ℕ → Bool
 is_zone [] = true
 is_zone (b ∷ bs) = if b == 90 then is_empty bs else (((b == 43) || (b == 45)) && are_offset (offset_fields bs))
 
--- A year, with or without its month, and a month alone may have a zone. A day may not: texts of two days in two zones can be the same value.
-abbrev pub has_zone : DatePart → Bool
-has_zone parts.Year = true
-has_zone parts.YearMonth = true
-has_zone parts.Month = true
-has_zone parts.MonthDay = false
-has_zone parts.Day = false
+abbrev pub ends_part : Option (List ℕ) → Bool
+ends_part None = false
+ends_part (Some bs) = is_zone bs
 
-abbrev pub is_end : DatePart → List ℕ → Bool
-is_end part bs = if has_zone part then is_zone bs else is_empty bs
-
-abbrev pub ends_part : DatePart → Option (List ℕ) → Bool
-ends_part part None = false
-ends_part part (Some bs) = is_end part bs
-
--- the text writes a part of a date
+-- the text writes a part of a date, which may have a zone
 abbrev pub is_date_part : DatePart → List ℕ → Bool
-is_date_part part bs = ends_part part (after_part part bs)
+is_date_part part bs = ends_part (after_part part bs)
 
 -- the text after a start, if it begins with it, and the text before an ending, if it ends with it
 abbrev pub after_start : List ℕ → List ℕ → Option (List ℕ)
@@ -145,6 +134,6 @@ plain_zone bs = front_and_zone bs (either (before_ending (codes "+00:00") bs) (b
 abbrev pub plain : List ℕ → List ℕ
 plain bs = ((plain_year bs).0 ++ (plain_zone (plain_year bs).1).0) ++ (plain_zone (plain_year bs).1).1
 
--- the one text of the part of a date that a text writes
-abbrev pub date_part_form : DatePart → List ℕ → Option (List ℕ)
-date_part_form part bs = if is_date_part part bs then Some (plain bs) else None
+-- the one text of the year, the month of a year or the month that a text writes
+abbrev pub plain_form : DatePart → List ℕ → Option (List ℕ)
+plain_form part bs = if is_date_part part bs then Some (plain bs) else None

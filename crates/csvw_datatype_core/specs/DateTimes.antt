@@ -1,7 +1,7 @@
 -- Moments that may have a zone and parts of a second: the texts that write one, and the value of each (XML Schema 1.1 Part 2, sections 3.3.7
 -- and 3.4.28). A moment with a zone is the same as the moment in the zone "Z" at the same time.
 use Rattle.std.specs.Prelude.{ℕ, ◌+◌, ◌*◌, ◌==◌, ◌&&◌, not, Bool, Option, Some, None, option_and_then, if◌then◌else◌, codes, List, [], ◌∷◌, ◌++◌, drop, take}
-use Rattle.std.specs.Prelude.{ℤ, pos, neg_ℤ, ◌+ℤ◌, ◌*ℤ◌}
+use Rattle.std.specs.Prelude.{ℤ, pos, neg_ℤ, ◌+ℤ◌, ◌*ℤ◌, ◌≤ℤ◌}
 use lib.Signed.{lt_z}
 use Rattle.csvw_datatype_core.specs.declared.moment.MomentFormat.TheVariants.{Seconds}
 use Rattle.csvw_datatype_core.specs.declared.date_time.DateTime.{DateTime}
@@ -35,6 +35,10 @@ trimmed (d ∷ ds) = with_first d (trimmed ds)
 abbrev pub minutes_of : Option (ℕ × ℕ) → Option ℕ
 minutes_of None = None
 minutes_of (Some x) = if is_offset x.0 x.1 then Some (x.0 * 60 + x.1) else None
+
+-- an offset is up to 14 hours ahead of "Z", or behind it, in minutes
+abbrev pub IsOffset : ℤ → Type 0
+IsOffset minutes = (neg_ℤ (pos 840) ≤ℤ minutes) × (minutes ≤ℤ pos 840)
 
 abbrev pub east : Option ℕ → Option (Option ℤ)
 east None = None

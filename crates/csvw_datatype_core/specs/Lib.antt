@@ -22,6 +22,9 @@ pub mod Values
 pub mod DateTimes
 pub mod Instants
 pub mod PartFields
+pub mod PartForms
 pub mod Stamps
 pub mod StampFormats
 pub mod Clocks
+pub mod Offsets
+pub mod ZonedDates

@@ -2,7 +2,7 @@
 use Rattle.std.specs.Prelude.{ℕ, ◌-◌, Option, Some, None, if◌then◌else◌, List, [], length, take, ℤ}
 use Rattle.csvw_datatype_core.specs.declared.date_part.DatePart.{DatePart}
 use Rattle.csvw_datatype_core.specs.declared.date_part.DatePart.TheVariants as parts
-use Rattle.csvw_datatype_core.specs.DateParts.{after_year, number_at, days_of, has_zone, is_empty}
+use Rattle.csvw_datatype_core.specs.DateParts.{after_year, number_at, days_of, is_empty}
 use Rattle.csvw_datatype_core.specs.DateTimes.{zone_at}
 use Rattle.csvw_datatype_core.specs.Fields.{◌>>=◌, after_separator}
 
@@ -45,16 +45,13 @@ fields_at parts.Day bs = do
   d ← number_at 31 rest
   Some ([], 0, d.0, d.1)
 
--- a day has no zone
+-- no zone at the end of a text
 abbrev pub no_zone : List ℕ → Option (Option ℤ)
 no_zone bs = if is_empty bs then Some None else None
-
-abbrev pub end_zone : DatePart → List ℕ → Option (Option ℤ)
-end_zone part bs = if has_zone part then zone_at bs else no_zone bs
 
 -- the text of the year, the month and the day that a text writes, and how many minutes its zone is ahead of "Z", if it has one
 unfoldable pub part_fields : DatePart → List ℕ → Option (List ℕ × ℕ × ℕ × Option ℤ)
 part_fields part bs = do
   x ← fields_at part bs
-  zone ← end_zone part x.3
+  zone ← zone_at x.3
   Some (x.0, x.1, x.2, zone)

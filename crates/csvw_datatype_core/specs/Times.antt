@@ -1,6 +1,6 @@
--- Times of day: the texts that write one, and the one text of each (Model for Tabular Data, section 6.4.4; XML Schema 1.1 Part 2,
+-- Times of day: the texts that write one, and their fields (Model for Tabular Data, section 6.4.4; XML Schema 1.1 Part 2,
 -- section 3.3.8).
-use Rattle.std.specs.Prelude.{ℕ, ◌&&◌, nat_lt, Option, Some, None, option_and_then, if◌then◌else◌, codes, List, ◌∷◌, ◌++◌}
+use Rattle.std.specs.Prelude.{ℕ, Option, Some, None, codes, List, ◌∷◌, ◌++◌}
 use Rattle.csvw_datatype_core.specs.declared.time.TimeFormat.{TimeFormat}
 use Rattle.csvw_datatype_core.specs.declared.time.TimeFormat.TheVariants as formats
 use Rattle.csvw_datatype_core.specs.Fields.{◌>>=◌, after_separator, two_at, at_end}
@@ -51,11 +51,3 @@ clock_fields format bs = do
 -- the text of a time of day in the format "HH:mm:ss"
 abbrev pub clock : ℕ → ℕ → ℕ → List ℕ
 clock h m s = two_digits h ++ (58 ∷ (two_digits m ++ (58 ∷ two_digits s)))
-
--- a day has 24 hours of 60 minutes of 60 seconds
-abbrev pub clock_of : ℕ × ℕ × ℕ → Option (List ℕ)
-clock_of x = if nat_lt x.0 24 && nat_lt x.1 60 && nat_lt x.2 60 then Some (clock x.0 x.1 x.2) else None
-
--- the one text of the time of day that a text writes
-abbrev pub time_form : TimeFormat → List ℕ → Option (List ℕ)
-time_form format bs = option_and_then clock_of (clock_fields format bs)

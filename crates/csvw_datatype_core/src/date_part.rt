@@ -1,9 +1,9 @@
 //! How a text writes a year, a month or a day alone.
-ghost use Rattle.std.specs.Prelude.{◌≡◌, IfOk, codes, List, ℕ, Some};
+ghost use Rattle.std.specs.Prelude.{◌≡◌, ◌≤◌, ◌+◌, ◌*◌, true, IfOk, codes};
 ghost use Rattle.csvw_datatype_core.specs.Fields.{option_view};
 ghost use Rattle.csvw_datatype_core.specs.DateParts.{digit_count, after_minus, begins_with_zero, is_year, after_digits, after_year};
 ghost use Rattle.csvw_datatype_core.specs.DateParts.{up_to, number_at, days_of, after_part, is_offset, offset_fields, are_offset, is_zone};
-ghost use Rattle.csvw_datatype_core.specs.DateParts.{has_zone, is_end, is_date_part, after_start, before_ending, either, plain_year, plain_zone, plain, date_part_form};
+ghost use Rattle.csvw_datatype_core.specs.DateParts.{is_date_part, after_start, before_ending, either, plain_year, plain_zone, plain};
 ghost use Rattle.csvw_datatype_core.specs.declared.date_part.DatePart.TheVariants as parts;
 
 use crate::date::{ended, past, two};
@@ -13,15 +13,15 @@ use std::alloc::{AllocError, Global};
 /// A part of a date (XML Schema 1.1 part 2, sections 3.3.10 to 3.3.14).
 #[derive(Clone, Copy, Debug, PartialEq, Eq)]
 pub enum DatePart {
-    /// `gYear`: a year, as `2015`. It may have a zone, as `2015Z`.
+    /// `gYear`: a year, as `2015`. Each part may have a zone, as `2015Z`.
     Year,
-    /// `gYearMonth`: a month of a year, as `2015-03`. It may have a zone.
+    /// `gYearMonth`: a month of a year, as `2015-03`.
     YearMonth,
-    /// `gMonth`: a month of each year, as `--03`. It may have a zone.
+    /// `gMonth`: a month of each year, as `--03`.
     Month,
-    /// `gMonthDay`: a day of each year, as `--03-22`. It has no zone.
+    /// `gMonthDay`: a day of each year, as `--03-22`.
     MonthDay,
-    /// `gDay`: a day of each month, as `---22`. It has no zone.
+    /// `gDay`: a day of each month, as `---22`.
     Day,
 }
 
@@ -145,7 +145,8 @@ fn after_part(part: DatePart, bytes: &[u8]) -> Option<&[u8]>
 }
 
 pub(crate) fn is_offset(hours: u8, minutes: u8) -> bool
-    ensures { result ≡ is_offset hours minutes }
+    ensures is { result ≡ is_offset hours minutes }
+    ensures limit { result ≡ true → hours * 60 + minutes ≤ 840 }
 {
     (hours < 14 && minutes < 60) || (hours == 14 && minutes == 0)
 }
@@ -180,33 +181,12 @@ fn is_zone(bytes: &[u8]) -> bool
     }
 }
 
-impl DatePart {
-    pub(crate) fn has_zone(self) -> bool
-        ensures { result ≡ has_zone self }
-    {
-        match self {
-            DatePart::Year | DatePart::YearMonth | DatePart::Month => true,
-            DatePart::MonthDay | DatePart::Day => false,
-        }
-    }
-}
-
-fn is_end(part: DatePart, bytes: &[u8]) -> bool
-    ensures { result ≡ is_end part bytes.now }
-{
-    if part.has_zone() {
-        is_zone(bytes)
-    } else {
-        bytes.is_empty()
-    }
-}
-
 /// Returns whether a text writes a part of a date. It takes no memory.
 pub fn is_date_part(part: DatePart, text: &str) -> bool
     ensures { result ≡ is_date_part part text.now }
 {
     match after_part(part, text.as_bytes()) {
-        Some(rest) => is_end(part, rest),
+        Some(rest) => is_zone(rest),
         None => false,
     }
 }
@@ -252,7 +232,8 @@ fn plain_zone(text: &str) -> (&str, &str)
     }
 }
 
-fn plain(alloc: Global, text: &str) -> Result<Text, AllocError>
+/// Returns a text with the year 0 as `0000`, and the offset 0 as `Z`.
+pub(crate) fn plain(alloc: Global, text: &str) -> Result<Text, AllocError>
     ensures { IfOk result (λ t. t ≡ plain text.now) }
 {
     let (year, rest) = plain_year(text);
@@ -262,21 +243,3 @@ fn plain(alloc: Global, text: &str) -> Result<Text, AllocError>
     form.push_str(zone)?;
     Ok(form)
 }
-
-/// Returns the one text of the part of a date that a text writes: the offset 0 is `Z`, and the year 0 is `0000`.
-///
-/// Returns `None` if the text isn't written as the part of a date is, and `AllocError` if memory runs out.
-pub fn date_part_text(alloc: Global, part: DatePart, text: &str) -> Result<Option<Text>, AllocError>
-    ensures { IfOk result (λ o. o ≡ date_part_form part text.now) }
-{
-    if is_date_part(part, text) {
-        Ok(Some(plain(alloc, text)?))
-    } else {
-        Ok(None)
-    }
-}
-
-/// A law: the text of a part of a date is itself written as one, and is its own text.
-pub fn one_date_part_text()
-    ensures { (part : DatePart) (text form : List ℕ) → date_part_form part text ≡ Some form → date_part_form part form ≡ Some form }
-{}

@@ -9,7 +9,7 @@ ghost use Rattle.csvw_datatype_core.specs.Forms.{moment_form};
 ghost use Rattle.csvw_datatype_core.specs.LexicalDates.{IsMomentNumber};
 ghost use Rattle.csvw_datatype_core.specs.Values.{moment_value};
 ghost use Rattle.csvw_datatype_core.specs.DateParts.{offset_fields};
-ghost use Rattle.csvw_datatype_core.specs.DateTimes.{digits_at, fraction_at, trimmed, minutes_of, zone_at, is_moment_number, fraction_text, written, in_utc, local, placed, parts_of, date_time_value};
+ghost use Rattle.csvw_datatype_core.specs.DateTimes.{IsOffset, digits_at, fraction_at, trimmed, minutes_of, zone_at, is_moment_number, fraction_text, written, in_utc, local, placed, parts_of, date_time_value};
 
 use crate::ascii::push_ascii;
 use crate::date_part::{digit_count, is_offset, offset_fields};
@@ -84,7 +84,8 @@ pub(crate) fn trimmed(digits: &[u8]) -> &[u8]
 
 /// Returns the minutes of an offset, after its sign.
 fn minutes_at(bytes: &[u8]) -> Option<u16>
-    ensures { result ≡ minutes_of (offset_fields bytes.now) }
+    ensures minutes { result ≡ minutes_of (offset_fields bytes.now) }
+    ensures limit { IfSome result (λ n. n ≤ 840) }
 {
     let (hours, minutes) = offset_fields(bytes)?;
     if is_offset(hours, minutes) {
@@ -96,7 +97,8 @@ fn minutes_at(bytes: &[u8]) -> Option<u16>
 
 /// Returns how many minutes a zone is ahead of `Z`, or `Some(None)` if there is no zone. Returns `None` if the text isn't a zone.
 pub(crate) fn zone_at(bytes: &[u8]) -> Option<Option<i32>>
-    ensures { result ≡ zone_at bytes.now }
+    ensures zone { result ≡ zone_at bytes.now }
+    ensures range { IfSome result (λ o. IfSome o IsOffset) }
 {
     match bytes {
         [] => Some(None),

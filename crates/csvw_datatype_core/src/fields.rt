@@ -1,8 +1,9 @@
 //! The fields of a year, a month or a day alone.
 ghost use Rattle.std.specs.Prelude.{◌≡◌, List, ℕ, Some, true, is_some};
 ghost use Rattle.csvw_datatype_core.specs.Fields.{option_view};
-ghost use Rattle.csvw_datatype_core.specs.DateParts.{date_part_form, is_date_part};
-ghost use Rattle.csvw_datatype_core.specs.PartFields.{before, end_zone, fields_at, no_zone, part_fields, year_at};
+ghost use Rattle.csvw_datatype_core.specs.DateParts.{is_date_part};
+ghost use Rattle.csvw_datatype_core.specs.PartFields.{before, fields_at, no_zone, part_fields, year_at};
+ghost use Rattle.csvw_datatype_core.specs.PartForms.{date_part_form};
 ghost use Rattle.csvw_datatype_core.specs.declared.date_part.DatePart.TheVariants as parts;
 
 use crate::ascii::as_text;
@@ -91,21 +92,11 @@ fn fields_at(part: DatePart, bytes: &[u8]) -> Option<(&str, u8, u8, &[u8])>
     }
 }
 
+/// Returns that there is no zone, if a text is empty.
 pub(crate) fn no_zone(bytes: &[u8]) -> Option<Option<i32>>
     ensures { result ≡ no_zone bytes.now }
 {
     if bytes.is_empty() { Some(None) } else { None }
-}
-
-/// Reads the zone at the end of a part of a date, as `zone_at` does. A day has none.
-fn end_zone(part: DatePart, bytes: &[u8]) -> Option<Option<i32>>
-    ensures { result ≡ end_zone part bytes.now }
-{
-    if part.has_zone() {
-        zone_at(bytes)
-    } else {
-        no_zone(bytes)
-    }
 }
 
 /// Returns the fields of the part of a date that a text writes. It takes no memory.
@@ -116,7 +107,7 @@ pub fn part_fields(part: DatePart, text: &str) -> Option<PartFields<'_>>
     ensures { option_view (λ f. (f.year.now, f.month, f.day, f.zone)) result ≡ part_fields part text.now }
 {
     let (year, month, day, rest) = fields_at(part, text.as_bytes())?;
-    let zone = end_zone(part, rest)?;
+    let zone = zone_at(rest)?;
     Some(PartFields {
         year,
         month,

@@ -1,7 +1,8 @@
 //! The order of moments.
 ghost use Rattle.std.specs.Prelude.{◌≡◌};
 ghost use Rattle.csvw_datatype_core.specs.Fields.{option_view};
-ghost use Rattle.csvw_datatype_core.specs.Instants.{apart_cmp, digits_cmp, first_digit, instant_cmp, instant_of, is_long_before, later_cmp, local_instant};
+ghost use Rattle.csvw_datatype_core.specs.Instants.{apart_cmp, digits_cmp, first_digit, instant_cmp, instant_of, is_long_before, later_cmp, local_instant, placed_instant};
+ghost use Rattle.csvw_datatype_core.specs.LexicalDates.{IsMomentNumber};
 
 use crate::date_time::parts_of;
 use std::cmp::Ordering;
@@ -49,18 +50,26 @@ pub fn instant_of(text: &str) -> Option<Instant<'_>>
     ensures { option_view (λ i. (i.second, i.digits.now, i.kind)) result ≡ instant_of text.now }
 {
     let parts = parts_of(text.as_bytes())?;
-    Some(match parts.minutes {
+    Some(placed_instant(parts.moment, parts.digits, parts.minutes))
+}
+
+/// Returns the moment of a second: without a zone as it is, and with one in the zone `Z`.
+pub(crate) fn placed_instant(second: i64, digits: &[u8], minutes: Option<i32>) -> Instant<'_>
+    requires { IsMomentNumber second }
+    ensures { (result.second, result.digits.now, result.kind) ≡ placed_instant second digits.now minutes }
+{
+    match minutes {
         Some(minutes) => Instant {
-            second: parts.moment + minutes as i64 * -60,
-            digits: parts.digits,
+            second: second + minutes as i64 * -60,
+            digits,
             kind: InstantKind::Zoned,
         },
         None => Instant {
-            second: parts.moment,
-            digits: parts.digits,
+            second,
+            digits,
             kind: InstantKind::Local,
         },
-    })
+    }
 }
 
 /// Splits digits after the first one. After the last digit there are zeros.

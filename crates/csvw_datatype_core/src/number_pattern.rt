@@ -1,15 +1,17 @@
-//! Patterns of numbers, as `#,##0.00` (Model for Tabular Data and Metadata on the Web, section 6.4.2; Unicode Technical
-//! Standard 35, part 3, section 3).
-ghost use Rattle.std.specs.Prelude.{◌≡◌, ◌==◌, ◌++◌, OnOk, MatchOption, encode_utf8_all, string_bytes, [], ◌∷◌, Some, suc, List, ℕ, if◌then◌else◌};
+//! Patterns of numbers, as `#,##0.00` and `#0.###E0` (Model for Tabular Data and Metadata on the Web, section 6.4.2; Unicode
+//! Technical Standard 35, part 3, section 3).
+ghost use Rattle.std.specs.Prelude.{◌≡◌, ◌==◌, ◌++◌, OnOk, MatchOption, option_map, encode_utf8_all, string_bytes, [], ◌∷◌, Some, suc, List, ℕ, if◌then◌else◌, length};
 ghost use Rattle.std.specs.List.{list_all, list_any};
 ghost use Rattle.csvw_datatype_core.specs.Numbers.{mark_text};
 ghost use Rattle.csvw_datatype_core.specs.declared.number.NumberRules.{NumberRules as Rules};
+ghost use Rattle.std.specs.Char.{is_ascii_digit};
 ghost use Rattle.std.specs.Str.{chars};
-ghost use Rattle.csvw_datatype_core.specs.NumberPatterns.{after_character, after_whole, at_group, candidate, count, fits, fraction_count, group_of};
-ghost use Rattle.csvw_datatype_core.specs.NumberPatterns.{has_sign, has_symbols, pattern_form, shown_of, whole_shown, is_boundary, is_left};
+ghost use Rattle.csvw_datatype_core.specs.NumberPatterns.{after_character, after_plus, after_whole, at_first_e, at_group, candidate, count, exponent_fits, exponent_form};
+ghost use Rattle.csvw_datatype_core.specs.NumberPatterns.{exponent_of, fits, fraction_count, group_of, has_plus, is_bare, is_exponent, mantissa_fits, mantissa_form};
+ghost use Rattle.csvw_datatype_core.specs.NumberPatterns.{has_sign, has_symbols, most_shown, pattern_form, shown_of, whole_shown, is_boundary, is_left};
 ghost use Rattle.csvw_datatype_core.specs.NumberPatterns.{is_pattern, is_pattern_character, is_sign, is_symbol, is_zero, larger, left, mark_of};
-ghost use Rattle.csvw_datatype_core.specs.NumberPatterns.{pattern_of, point_of, runs, no_runs, sizes_of, symbol, symbols, unsigned, as_symbol};
-ghost use Rattle.csvw_datatype_core.specs.NumberPatterns.{whole_count, with_digits};
+ghost use Rattle.csvw_datatype_core.specs.NumberPatterns.{pattern_of, mantissa_pattern, pattern_by, pattern_parts, parts_fit, point_of, runs, no_runs, scientific_pattern, sizes_of, symbol};
+ghost use Rattle.csvw_datatype_core.specs.NumberPatterns.{symbols, unsigned, as_symbol, whole_count, with_digits, zeros};
 
 use crate::number::{Mark, NumberRules};
 use std::alloc::AllocError;
@@ -23,6 +25,17 @@ pub struct GroupSizes {
     pub last: u8,
     /// Between two group characters.
     pub other: u8,
+}
+
+/// How numbers with an exponent are written.
+#[derive(Clone, Copy, Debug, PartialEq, Eq)]
+pub struct ExponentPattern {
+    /// The greatest number of digits of the whole part before the exponent.
+    pub most_whole: usize,
+    /// Whether an exponent has a sign, as with `E+0`. Without it a sign may be missing.
+    pub needs_sign: bool,
+    /// The least number of digits of the exponent.
+    pub least: usize,
 }
 
 /// How the numbers of a column are written.
@@ -40,6 +53,8 @@ pub struct NumberPattern {
     pub most_fraction: usize,
     /// The mark at the end of a number.
     pub mark: Mark,
+    /// How the exponent is written, as in `0.0E0`. `None` if a number has none.
+    pub exponent: Option<ExponentPattern>,
 }
 
 /// Why a text is not a pattern of numbers.
@@ -47,7 +62,7 @@ pub struct NumberPattern {
 pub enum PatternFault {
     /// The symbols are in no order that a pattern has.
     Bad,
-    /// There is a character that no supported pattern has, as `E` or `;`.
+    /// There is a character that no supported pattern has, as `;`.
     Unknown,
 }
 
@@ -59,7 +74,7 @@ impl PatternFault {
                 "the pattern has its symbols in no order of numbers: write `#` before `0`, and after the point `0` before `#`"
             }
             PatternFault::Unknown => {
-                "the pattern has a character that is not supported: use `0`, `#`, `+`, `%`, `‰`, the decimal and the group character"
+                "the pattern has a character that is not supported: use `0`, `#`, `+`, `%`, `‰`, `E`, the decimal and the group character"
             }
         }
     }
@@ -142,6 +157,33 @@ fn unsigned(text: &str) -> &str
         Some(c) if is_sign(c) => characters.as_str(),
         _ => text,
     }
+}
+
+fn has_plus(text: &str) -> bool
+    ensures { result ≡ has_plus (chars text.now) }
+{
+    match text.chars().next() {
+        Some(c) => c == '+',
+        None => false,
+    }
+}
+
+/// Returns a text without its `+`.
+fn after_plus(text: &str) -> &str
+    ensures { chars result.now ≡ after_plus (chars text.now) }
+{
+    let mut characters = text.chars();
+    match characters.next() {
+        Some(c) if c == '+' => characters.as_str(),
+        _ => text,
+    }
+}
+
+/// Returns the text before the first `E` and the text after it, or `None` if there is no `E`.
+fn at_first_e(text: &str) -> Option<(&str, &str)>
+    ensures { option_map (λ x. (chars x.0.now, chars x.1.now)) result ≡ at_first_e (chars text.now) }
+{
+    text.split_once('E')
 }
 
 /// Returns a character of a number as that of a pattern: each digit as `0`.
@@ -318,10 +360,40 @@ impl NumberPattern {
         self.is_over(rules, rest)
     }
 
-    /// Returns whether a number is written as the pattern says. The text is one that `read_number` reads.
+    /// Returns whether a number is written as the pattern says. The text is one that `read_number` reads, or before its exponent.
     #[tactic(auto, unfolding(crate::specs::NumberPatterns::fits))]
     pub fn fits(&self, rules: &NumberRules, text: &str) -> bool
         ensures { result ≡ fits rules.now self.now (chars text.now) }
+    {
+        match self.exponent {
+            Some(exponent) => self.parts_fit(rules, exponent, at_first_e(text)),
+            None => self.mantissa_fits(rules, text),
+        }
+    }
+
+    /// Returns whether a mantissa and its exponent are written as the pattern says.
+    fn parts_fit(
+        &self,
+        rules: &NumberRules,
+        exponent: ExponentPattern,
+        parts: Option<(&str, &str)>,
+    ) -> bool
+        ensures { result ≡ parts_fit rules.now self.now exponent (option_map (λ x. (chars x.0.now, chars x.1.now)) parts.entry) }
+    {
+        match parts {
+            Some((mantissa, digits)) => {
+                self.mantissa_fits(rules, mantissa)
+                    && whole_symbol_count(rules, mantissa) <= exponent.most_whole
+                    && exponent.fits(digits)
+            }
+            None => false,
+        }
+    }
+
+    /// Returns whether a number without an exponent is written as the pattern says.
+    #[tactic(auto, unfolding(crate::specs::NumberPatterns::mantissa_fits))]
+    fn mantissa_fits(&self, rules: &NumberRules, text: &str) -> bool
+        ensures { result ≡ mantissa_fits rules.now self.now (chars text.now) }
     {
         let whole = whole_symbol_count(rules, text);
         let fraction = symbol_count(text).saturating_sub(whole);
@@ -347,13 +419,36 @@ impl NumberPattern {
             None => 0,
         };
         let one = if self.most_fraction == 0 { 1 } else { 0 };
-        larger(self.least_whole, larger(groups, one))
+        let shown = larger(self.least_whole, larger(groups, one));
+        larger(self.most_shown(), shown)
+    }
+
+    /// Returns how many symbols of the whole part show its most digits before an exponent.
+    fn most_shown(&self) -> usize
+        ensures { result ≡ most_shown self.now.exponent }
+    {
+        match self.exponent {
+            Some(exponent) => exponent.most_whole,
+            None => 0,
+        }
     }
 
     /// Adds the pattern to a text, with as few symbols as show it. Returns `AllocError` if memory runs out.
     pub fn push_to(&self, rules: &NumberRules, text: &mut String) -> Result<(), AllocError>
         ensures { OnOk result (string_bytes text.new
             ≡ string_bytes text.old ++ encode_utf8_all (pattern_form rules.now self.now)) }
+    {
+        self.push_mantissa(rules, text)?;
+        match self.exponent {
+            Some(exponent) => exponent.push_to(text),
+            None => Ok(()),
+        }
+    }
+
+    /// Adds the pattern without its exponent.
+    fn push_mantissa(&self, rules: &NumberRules, text: &mut String) -> Result<(), AllocError>
+        ensures { OnOk result (string_bytes text.new
+            ≡ string_bytes text.old ++ encode_utf8_all (mantissa_form rules.now self.now)) }
     {
         if self.needs_sign {
             text.push('+')?;
@@ -377,7 +472,7 @@ impl NumberPattern {
     /// Returns the pattern that a text is, with the decimal and the group character of the rules, `.` and `,` without them
     /// (Unicode Technical Standard 35, part 3, section 3).
     ///
-    /// Returns `Unknown` if there is another character than `0`, `#`, `+`, `%`, `‰` and these two. Otherwise returns `Bad` if
+    /// Returns `Unknown` if there is another character than `0`, `#`, `+`, `%`, `‰`, `E` and these two. Otherwise returns `Bad` if
     /// the text is no pattern.
     #[tactic(auto, unfolding(crate::specs::NumberPatterns::pattern_of))]
     pub fn of(rules: &NumberRules, text: &str) -> Result<NumberPattern, PatternFault>
@@ -386,13 +481,152 @@ impl NumberPattern {
         if !are_pattern_characters(rules, text) {
             return Err(PatternFault::Unknown);
         }
-        let pattern = candidate(rules, text);
-        let whole = whole_symbol_count(rules, text);
-        if symbol_count(text) > 0 && pattern.has_symbols(rules, whole, text) {
-            Ok(pattern)
-        } else {
-            Err(PatternFault::Bad)
+        pattern_by(rules, text, pattern_parts(rules, text))
+    }
+
+    /// Returns whether the pattern has no group character and no mark, as one with an exponent.
+    fn is_bare(&self) -> bool
+        ensures { result ≡ is_bare self.now }
+    {
+        self.groups.is_none() && matches!(self.mark, Mark::Plain)
+    }
+}
+
+impl ExponentPattern {
+    /// Returns whether an exponent, the text after its `E`, is written as the pattern says.
+    fn fits(self, text: &str) -> bool
+        ensures { result ≡ exponent_fits self (chars text.now) }
+    {
+        let digits = unsigned(text);
+        (!self.needs_sign || has_sign(text))
+            && larger(self.least, 1) <= character_count(digits)
+            && are_digits(digits)
+    }
+
+    /// Adds the pattern of the exponent, with its `E`. Returns `AllocError` if memory runs out.
+    fn push_to(self, text: &mut String) -> Result<(), AllocError>
+        ensures { OnOk result (string_bytes text.new ≡ string_bytes text.old ++ encode_utf8_all (exponent_form (Some self))) }
+    {
+        text.push('E')?;
+        if self.needs_sign {
+            text.push('+')?;
         }
+        push_zeros(self.least, text)
+    }
+}
+
+/// Returns how many characters a text has.
+fn character_count(text: &str) -> usize
+    ensures { result ≡ length (chars text.now) }
+{
+    text.chars().count()
+}
+
+/// Returns whether each character is a digit.
+fn are_digits(text: &str) -> bool
+    ensures { result ≡ list_all is_ascii_digit (chars text.now) }
+{
+    text.chars().all(|c| c.is_ascii_digit())
+}
+
+/// Adds so many zeros. Returns `AllocError` if memory runs out.
+fn push_zeros(count: usize, text: &mut String) -> Result<(), AllocError>
+    ensures { OnOk result (string_bytes text.new ≡ string_bytes text.old ++ encode_utf8_all (zeros count)) }
+{
+    let mut left = count;
+    while left > 0 {
+        text.push('0')?;
+        left -= 1;
+    }
+    Ok(())
+}
+
+/// Returns the text before the exponent of a pattern and the exponent, or `None` if there is none. An `E` that is the decimal or
+/// the group character is before no exponent.
+fn pattern_parts<'a>(rules: &NumberRules, text: &'a str) -> Option<(&'a str, &'a str)>
+    ensures { option_map (λ x. (chars x.0.now, chars x.1.now)) result ≡ pattern_parts rules.now (chars text.now) }
+{
+    if point_of(rules) == 'E' || group_of(rules) == 'E' {
+        None
+    } else {
+        at_first_e(text)
+    }
+}
+
+/// Returns the pattern that a text or its two parts are.
+fn pattern_by(
+    rules: &NumberRules,
+    text: &str,
+    parts: Option<(&str, &str)>,
+) -> Result<NumberPattern, PatternFault>
+    ensures { result ≡ pattern_by rules.now (chars text.now) (option_map (λ x. (chars x.0.now, chars x.1.now)) parts.entry) }
+{
+    match parts {
+        Some((mantissa, exponent)) => scientific_pattern(rules, mantissa, exponent),
+        None => mantissa_pattern(rules, text),
+    }
+}
+
+/// Returns the pattern that a mantissa and an exponent are.
+fn scientific_pattern(
+    rules: &NumberRules,
+    mantissa: &str,
+    exponent: &str,
+) -> Result<NumberPattern, PatternFault>
+    ensures { result ≡ scientific_pattern rules.now (chars mantissa.now, chars exponent.now) }
+{
+    let pattern = candidate(rules, mantissa);
+    if is_pattern(rules, mantissa) && pattern.is_bare() && is_exponent(exponent) {
+        Ok(NumberPattern {
+            exponent: Some(exponent_of(whole_symbol_count(rules, mantissa), exponent)),
+            ..pattern
+        })
+    } else {
+        Err(PatternFault::Bad)
+    }
+}
+
+/// Returns the pattern without an exponent that a text is.
+fn mantissa_pattern(rules: &NumberRules, text: &str) -> Result<NumberPattern, PatternFault>
+    ensures { result ≡ mantissa_pattern rules.now (chars text.now) }
+{
+    if is_pattern(rules, text) {
+        Ok(candidate(rules, text))
+    } else {
+        Err(PatternFault::Bad)
+    }
+}
+
+/// Returns whether a text is a pattern without an exponent.
+fn is_pattern(rules: &NumberRules, text: &str) -> bool
+    ensures { result ≡ is_pattern rules.now (chars text.now) }
+{
+    let whole = whole_symbol_count(rules, text);
+    symbol_count(text) > 0 && candidate(rules, text).has_symbols(rules, whole, text)
+}
+
+/// Returns whether a text is a pattern of exponents.
+fn is_exponent(text: &str) -> bool
+    ensures { result ≡ is_exponent (chars text.now) }
+{
+    zero_count(text) > 0 && are_zeros(after_plus(text))
+}
+
+/// Returns whether each character is a zero.
+fn are_zeros(text: &str) -> bool
+    ensures { result ≡ list_all is_zero (chars text.now) }
+{
+    text.chars().all(|c| c == '0')
+}
+
+/// Returns the only pattern of exponents that a text can be, after a whole part of so many symbols.
+fn exponent_of(most_whole: usize, text: &str) -> ExponentPattern
+    ensures { result ≡ exponent_of most_whole (chars text.now) }
+{
+    ExponentPattern {
+        most_whole,
+        needs_sign: has_plus(text),
+        least: zero_count(text),
     }
 }
 
@@ -402,7 +636,7 @@ fn are_pattern_characters(rules: &NumberRules, text: &str) -> bool
 {
     let point = point_of(rules);
     let group = group_of(rules);
-    text.chars().all(|c| matches!(c, '0' | '#' | '+' | '%' | '‰') || c == point || c == group)
+    text.chars().all(|c| matches!(c, '0' | '#' | '+' | '%' | '‰' | 'E') || c == point || c == group)
 }
 
 /// Returns whether a text contains a character.
@@ -497,7 +731,7 @@ fn runs_of(rules: &NumberRules, text: &str) -> GroupRuns
     groups
 }
 
-/// Returns the only pattern that a text can be.
+/// Returns the only pattern without an exponent that a text can be.
 fn candidate(rules: &NumberRules, text: &str) -> NumberPattern
     ensures { result ≡ candidate rules.now (chars text.now) }
 {
@@ -510,5 +744,6 @@ fn candidate(rules: &NumberRules, text: &str) -> NumberPattern
         least_fraction: zero_count(text).saturating_sub(least_whole),
         most_fraction: symbol_count(text).saturating_sub(whole),
         mark: mark_of(text),
+        exponent: None,
     }
 }

@@ -5,7 +5,7 @@ ghost use Rattle.csvw_datatype_core.specs.Values.{at_space, date_value, spaced_v
 
 use crate::date::{DateFormat, read_date};
 use crate::moment::moment_of;
-use crate::time::{TimeFormat, second_of_time};
+use crate::time::{TimeFormat, second_at};
 
 /// Returns the text before the first space and the text after it, or `None` if there is no space.
 pub(crate) fn at_space(text: &str) -> Option<(&str, &str)>
@@ -29,6 +29,6 @@ pub(crate) fn read_spaced(date: DateFormat, time: TimeFormat, text: &str) -> Opt
 {
     let (before, after) = at_space(text)?;
     let day = date_value(date, before)?;
-    let second = second_of_time(time, after)?;
+    let second = second_at(time, after.as_bytes())?;
     Some(moment_of(day, second))
 }

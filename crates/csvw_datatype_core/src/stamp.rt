@@ -1,10 +1,10 @@
 //! How a text writes a moment in a format with parts of a second or a zone.
-ghost use Rattle.std.specs.Prelude.{◌≡◌, IfOk, IfSome, List, ℕ, ℤ, Some};
+ghost use Rattle.std.specs.Prelude.{◌≡◌, ◌≤◌, IfOk, IfSome, List, ℕ, ℤ, Some};
 ghost use Rattle.std.specs.Str.{IsAscii};
 ghost use Rattle.csvw_datatype_core.specs.declared.date_time.DateTime.TheVariants as values;
 ghost use Rattle.csvw_datatype_core.specs.declared.date_time.Zone.TheVariants as zones;
 ghost use Rattle.csvw_datatype_core.specs.declared.moment.MomentFormat.TheVariants.{Spaced};
-ghost use Rattle.csvw_datatype_core.specs.DateTimes.{date_time_value, minutes_of};
+ghost use Rattle.csvw_datatype_core.specs.DateTimes.{IsOffset, date_time_value, minutes_of};
 ghost use Rattle.csvw_datatype_core.specs.Fields.{option_view};
 ghost use Rattle.csvw_datatype_core.specs.LexicalDates.{IsMomentNumber};
 ghost use Rattle.csvw_datatype_core.specs.Stamps.{time_len, joined_in, moment_at, fraction_within, offset_minutes, offset_digits, utc_at, offset_at, after_gap, ending_at, stamp_parts, stamp_value};
@@ -111,7 +111,8 @@ fn offset_digits(form: OffsetForm, bytes: &[u8]) -> Option<(u8, u8)>
 
 /// Returns the minutes of an offset, after its sign.
 fn minutes_after_sign(form: OffsetForm, bytes: &[u8]) -> Option<u16>
-    ensures { result ≡ minutes_of (offset_digits form bytes.now) }
+    ensures minutes { result ≡ minutes_of (offset_digits form bytes.now) }
+    ensures limit { IfSome result (λ n. n ≤ 840) }
 {
     let (hours, minutes) = offset_digits(form, bytes)?;
     if is_offset(hours, minutes) {
@@ -122,7 +123,8 @@ fn minutes_after_sign(form: OffsetForm, bytes: &[u8]) -> Option<u16>
 }
 
 fn utc_at(utc: UtcMark, bytes: &[u8]) -> Option<Option<i32>>
-    ensures { result ≡ utc_at utc bytes.now }
+    ensures zone { result ≡ utc_at utc bytes.now }
+    ensures range { IfSome result (λ o. IfSome o IsOffset) }
 {
     match utc {
         UtcMark::Allowed if bytes.is_empty() => Some(Some(0)),
@@ -132,7 +134,8 @@ fn utc_at(utc: UtcMark, bytes: &[u8]) -> Option<Option<i32>>
 
 /// Returns how many minutes an offset is ahead of `Z`. Returns `None` if the text isn't an offset in the format.
 fn offset_at(zone: ZoneFormat, bytes: &[u8]) -> Option<Option<i32>>
-    ensures { result ≡ offset_at zone bytes.now }
+    ensures zone { result ≡ offset_at zone bytes.now }
+    ensures range { IfSome result (λ o. IfSome o IsOffset) }
 {
     match bytes {
         [b'Z', rest @ ..] => utc_at(zone.utc, rest),
@@ -158,8 +161,9 @@ fn after_gap(gap: ZoneGap, bytes: &[u8]) -> Option<&[u8]>
 }
 
 /// Returns how many minutes the zone at the end of a text is ahead of `Z`, or `Some(None)` if the format has no zone.
-fn ending_at(zone: Option<ZoneFormat>, bytes: &[u8]) -> Option<Option<i32>>
-    ensures { result ≡ ending_at zone bytes.now }
+pub(crate) fn ending_at(zone: Option<ZoneFormat>, bytes: &[u8]) -> Option<Option<i32>>
+    ensures zone { result ≡ ending_at zone bytes.now }
+    ensures range { IfSome result (λ o. IfSome o IsOffset) }
 {
     match zone {
         Some(zone) => offset_at(zone, after_gap(zone.gap, bytes)?),

@@ -126,7 +126,8 @@ impl ZoneFormat {
         }
     }
 
-    fn push_pattern(self, text: &mut String) -> Result<(), AllocError>
+    /// Appends the pattern of the zone. Returns `AllocError` if memory runs out.
+    pub(crate) fn push_pattern(self, text: &mut String) -> Result<(), AllocError>
         ensures { OnOk result (string_bytes text.new ≡ string_bytes text.old ++ zone_pattern (Some self)) }
     {
         if let ZoneGap::Space = self.gap {
@@ -279,7 +280,7 @@ fn upper_zone(pattern: &str) -> Option<(&str, Option<ZoneFormat>)>
 }
 
 /// Returns the text before the zone at the end of a pattern, and the zone, if there is one.
-fn zone_split(pattern: &str) -> Option<(&str, Option<ZoneFormat>)>
+pub(crate) fn zone_split(pattern: &str) -> Option<(&str, Option<ZoneFormat>)>
     ensures { option_view (λ x. (x.0.now, x.1)) result ≡ zone_split pattern.now }
 {
     let (front, letters) = run_at(pattern, Letter::Lower);

@@ -1,16 +1,12 @@
 //! How a text writes a time of day.
-ghost use Rattle.std.specs.Prelude.{◌≡◌, ◌≢◌, ◌<◌, IfOk, MatchOption, List, ℕ, Some, is_some};
+ghost use Rattle.std.specs.Prelude.{◌≡◌, ◌≢◌, ◌<◌, IfSome, MatchOption, is_some};
 ghost use Rattle.std.specs.Str.{IsAscii};
 ghost use Rattle.csvw_datatype_core.specs.Fields.{option_view};
-ghost use Rattle.csvw_datatype_core.specs.Times.{time_pattern, after_colon, last_two, no_seconds, seconds_at, clock_fields, clock, clock_of, time_form};
+ghost use Rattle.csvw_datatype_core.specs.Times.{time_pattern, after_colon, last_two, no_seconds, seconds_at, clock_fields, clock};
 ghost use Rattle.csvw_datatype_core.specs.Values.{time_value};
-ghost use Rattle.csvw_datatype_core.specs.declared.time.TimeFormat.TheVariants.{Seconds};
 
-use crate::ascii::push_ascii;
 use crate::date::{ended, past, two};
 use crate::moment::second_of_day;
-use csvw_text::Text;
-use std::alloc::{AllocError, Global};
 
 /// The fields of a time of day, and whether `:` separates them (Model for Tabular Data and Metadata on the Web, section
 /// 6.4.4).
@@ -100,7 +96,8 @@ pub(crate) fn clock_fields(format: TimeFormat, bytes: &[u8]) -> Option<(u8, u8, 
     Some((hour, minute, second))
 }
 
-fn clock(hour: u8, minute: u8, second: u8) -> [u8; 8]
+/// Returns the text `HH:mm:ss` of a time of day.
+pub(crate) fn clock(hour: u8, minute: u8, second: u8) -> [u8; 8]
     requires hour { hour < 100 }
     requires minute { minute < 100 }
     requires second { second < 100 }
@@ -119,63 +116,20 @@ fn clock(hour: u8, minute: u8, second: u8) -> [u8; 8]
     ]
 }
 
-pub(crate) fn clock_of(
-    alloc: Global,
-    hour: u8,
-    minute: u8,
-    second: u8,
-) -> Result<Option<Text>, AllocError>
-    ensures { IfOk result (λ o. o ≡ clock_of (hour, minute, second)) }
-{
-    if hour < 24 && minute < 60 && second < 60 {
-        let mut form = Text::new(alloc);
-        push_ascii(&mut form, &clock(hour, minute, second))?;
-        Ok(Some(form))
-    } else {
-        Ok(None)
-    }
-}
-
-/// Returns the text `HH:mm:ss` of the time of day that a text writes (XML Schema 1.1 part 2, section 3.3.8).
-///
-/// Returns `None` if the text isn't in the format, or if a day has no such time. Returns `AllocError` if memory runs out.
-pub fn time_text(alloc: Global, format: TimeFormat, text: &str) -> Result<Option<Text>, AllocError>
-    ensures { IfOk result (λ o. o ≡ time_form format text.now) }
-{
-    match clock_fields(format, text.as_bytes()) {
-        Some((hour, minute, second)) => clock_of(alloc, hour, minute, second),
-        None => Ok(None),
-    }
-}
-
 /// Returns the second of its day that a time of day is, from 0 to 86,399 (XML Schema 1.1 part 2, section 3.3.8).
 ///
-/// Returns `None` if the text isn't in the format, or if a day has no such time.
-pub fn second_of_time(format: TimeFormat, text: &str) -> Option<u32>
-    ensures { result ≡ time_value format text.now }
-{
-    second_at(format, text.as_bytes())
-}
-
-/// Returns the second of its day that bytes are, as `second_of_time` does.
+/// Returns `None` if the bytes aren't in the format, or if a day has no such time.
 pub(crate) fn second_at(format: TimeFormat, bytes: &[u8]) -> Option<u32>
-    ensures { result ≡ time_value format bytes.now }
+    ensures second { result ≡ time_value format bytes.now }
+    ensures limit { IfSome result (λ n. n < 86_400) }
 {
     let (hour, minute, second) = clock_fields(format, bytes)?;
     second_of_day(hour, minute, second)
 }
 
-/// Returns whether a text writes a time of day. It takes no memory.
+/// Returns whether a text writes a time of day in a format. It takes no memory.
 pub fn is_time(format: TimeFormat, text: &str) -> bool
-    ensures { result ≡ is_some (time_form format text.now) }
+    ensures { result ≡ is_some (time_value format text.now) }
 {
-    match clock_fields(format, text.as_bytes()) {
-        Some((hour, minute, second)) => hour < 24 && minute < 60 && second < 60,
-        None => false,
-    }
+    second_at(format, text.as_bytes()).is_some()
 }
-
-/// A law: the text of a time of day is in the format `HH:mm:ss`, and is its own text.
-pub fn one_time_text()
-    ensures { (format : TimeFormat) (text form : List ℕ) → time_form format text ≡ Some form → time_form Seconds form ≡ Some form }
-{}

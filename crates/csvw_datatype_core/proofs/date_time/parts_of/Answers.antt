@@ -12,4 +12,4 @@ returns-clause-parts c =
     ap (λ (z : ℤ). Some (z, c.trimmed.result.now, c.in_ok-minutes.minutes)) (to_z-of_z w64 c.in_ok-moment.moment fits)
     ∙ parts_found bs _ _ _ _ _ _ _ (c.split_at.ensures.front ∙ ap (λ n. take n bs) c.min.ensures ∙ front_is 19 bs)
     (c.split_at.ensures.back ∙ ap (λ n. drop n bs) c.min.ensures ∙ back_is 19 bs) c.in_ok-moment.ensures.value c.in_ok-digits.ensures.split
-    c.in_ok-minutes.ensures c.trimmed.ensures.digits
+    c.in_ok-minutes.ensures.zone c.trimmed.ensures.digits

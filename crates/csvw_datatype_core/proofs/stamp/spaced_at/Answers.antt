@@ -28,7 +28,7 @@ returns-in_err-second c =
     ∙ ap (λ n. take n bytes) c.time_len.ensures ∙ ap (λ (l : List ℕ). take k l) c.as_bytes-bytes.ensures.value in
     rw c.from_residual-in_err-second.ensures
     (spaced_found c.args.date c.args.time c.args.text.now c.in_ok-before.before.now after c.split_at.result.0.now (drop k after)
-    (Some c.in_ok-day.day) None c.in_ok-before.ensures front refl c.in_ok-day.ensures c.in_err-second.ensures)
+    (Some c.in_ok-day.day) None c.in_ok-before.ensures front refl c.in_ok-day.ensures c.in_err-second.ensures.second)
 
 pub returns : goal.returns
 returns c =
@@ -44,4 +44,4 @@ returns c =
     ap (λ (z : ℤ). Some (z, c.split_at.result.1.now)) (to_z-of_z w64 c.moment_of.result fits ∙ c.moment_of.ensures
     ∙ ap (λ d. (d *ℤ pos 86_400) +ℤ pos c.in_ok-second.second) (to_z-of_z w32 c.in_ok-day.day day))
     ∙ spaced_found c.args.date c.args.time c.args.text.now c.in_ok-before.before.now after c.split_at.result.0.now c.split_at.result.1.now
-    (Some c.in_ok-day.day) (Some c.in_ok-second.second) c.in_ok-before.ensures front back c.in_ok-day.ensures c.in_ok-second.ensures
+    (Some c.in_ok-day.day) (Some c.in_ok-second.second) c.in_ok-before.ensures front back c.in_ok-day.ensures c.in_ok-second.ensures.second
