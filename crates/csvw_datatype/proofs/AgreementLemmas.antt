@@ -96,6 +96,7 @@ has_lengths_of (simples.Other types.Xml) = derived
 has_lengths_of (simples.Other types.Html) = derived
 has_lengths_of (simples.Other types.Json) = derived
 has_lengths_of (simples.Other types.Time) = neither_kind
+has_lengths_of (simples.Other types.Date) = neither_kind
 has_lengths_of (simples.Other (types.DateTime z)) = neither_kind
 has_lengths_of (simples.Other (types.Part p)) = neither_kind
 has_lengths_of (simples.Other (types.Binary form)) = octets

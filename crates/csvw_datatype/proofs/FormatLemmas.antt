@@ -39,6 +39,7 @@ whole_lawful (Some (formats.Truth f)) h = plain_whole
 whole_lawful (Some (formats.Day f)) h = plain_whole
 whole_lawful (Some (formats.Moment f)) h = plain_whole
 whole_lawful (Some (formats.Time f)) h = plain_whole
+whole_lawful (Some (formats.ZonedDay f)) h = plain_whole
 whole_lawful (Some (formats.Stamp f)) h = plain_whole
 whole_lawful (Some (formats.Expression e)) h = plain_whole
 
@@ -49,6 +50,7 @@ derived_lawful w (Some (formats.Truth f)) h = plain_whole
 derived_lawful w (Some (formats.Day f)) h = plain_whole
 derived_lawful w (Some (formats.Moment f)) h = plain_whole
 derived_lawful w (Some (formats.Time f)) h = plain_whole
+derived_lawful w (Some (formats.ZonedDay f)) h = plain_whole
 derived_lawful w (Some (formats.Stamp f)) h = plain_whole
 derived_lawful w (Some (formats.Expression e)) h = plain_whole
 
@@ -59,6 +61,7 @@ decimal_lawful (Some (formats.Truth f)) h = plain_decimal
 decimal_lawful (Some (formats.Day f)) h = plain_decimal
 decimal_lawful (Some (formats.Moment f)) h = plain_decimal
 decimal_lawful (Some (formats.Time f)) h = plain_decimal
+decimal_lawful (Some (formats.ZonedDay f)) h = plain_decimal
 decimal_lawful (Some (formats.Stamp f)) h = plain_decimal
 decimal_lawful (Some (formats.Expression e)) h = plain_decimal
 
@@ -69,6 +72,7 @@ floating_lawful t (Some (formats.Truth f)) h = plain_decimal
 floating_lawful t (Some (formats.Day f)) h = plain_decimal
 floating_lawful t (Some (formats.Moment f)) h = plain_decimal
 floating_lawful t (Some (formats.Time f)) h = plain_decimal
+floating_lawful t (Some (formats.ZonedDay f)) h = plain_decimal
 floating_lawful t (Some (formats.Stamp f)) h = plain_decimal
 floating_lawful t (Some (formats.Expression e)) h = plain_decimal
 

@@ -23,6 +23,10 @@ use Rattle.csvw_datatype_core.specs.Moments.{ReadsMoment}
 use Rattle.csvw_datatype_core.specs.LexicalDates.{IsDayNumber, IsMomentNumber}
 use Rattle.csvw_datatype_core.specs.declared.date_time.DateTime.{DateTime}
 use Rattle.csvw_datatype_core.specs.declared.date_time.DateTime.TheVariants as date_times
+use Rattle.csvw_datatype_core.specs.declared.zoned_date.ZonedDate.{ZonedDate}
+use Rattle.csvw_datatype_core.specs.declared.zoned_date.ZonedDate.TheVariants as dates
+use Rattle.csvw_datatype_core.specs.declared.zoned_date.ZonedDateFormat.{ZonedDateFormat}
+use Rattle.csvw_datatype_core.specs.ZonedDates.{zoned_date_value}
 use Rattle.csvw_datatype_core.specs.declared.date_time.Zone.{Zone}
 use Rattle.csvw_double.specs.declared.numeral.DoubleFault.{DoubleFault}
 use Rattle.csvw_double.specs.declared.numeral.DoubleFault.TheVariants as double_faults
@@ -42,7 +46,7 @@ use Rattle.csvw_datatype.specs.declared.simple.Floating.{Floating}
 use Rattle.csvw_datatype.specs.DoubleFormats.{HasNoPlain, IsPlainOf, at_exponent, exponent, is_special, mantissa, mantissa_rules}
 use Rattle.csvw_datatype.specs.Formats.{IsFormatOf, fits_format, fits_pattern, format_rules, is_described}
 use Rattle.csvw_datatype.specs.Strings.{is_ordered}
-use Rattle.csvw_datatype.specs.TextValues.{moment_in, text_value, text_if, kept, kept_if, date_time_kept}
+use Rattle.csvw_datatype.specs.TextValues.{date_kept, moment_in, text_value, text_if, kept, kept_if, date_time_kept, zoned_format}
 use Rattle.csvw_datatype.specs.Widths.{IsInWidth}
 use Rattle.csvw_datatype.specs.Reads.{SpellsTruth, whole_rules, decimal_rules, date_format, moment_format, ReadsAs, ReadsNumberAs, MisreadAs, MisreadsNumber, number_code, double_code, ReadsPlain, ReadsFormatted, ReadsDouble, MisreadsPlain, MisreadsFormatted, MisreadsDouble}
 use Rattle.csvw_datatype.specs.Sound.{IsNumberSize, IsWholeNumber, IsTextBound, IsBoundOf, has_bounds}
@@ -69,6 +73,9 @@ MomentsInRange = (f : MomentFormat) (text : List ℕ) (moment : ℤ) → ReadsMo
 abbrev pub DateTimesInRange : Type 0
 DateTimesInRange = (f : Option Format) (zone : Zone) (text : List ℕ) (moment : ℤ) → moment_in f zone text ≡ Some (date_times.Second moment)
     → IsMomentNumber moment
+
+abbrev pub ZonedDatesInRange : Type 0
+ZonedDatesInRange = (f : Option ZonedDateFormat) (text : List ℕ) (day : ℤ) → zoned_date_value f text ≡ Some (dates.Day day) → IsDayNumber day
 
 -- truths
 
@@ -97,6 +104,7 @@ one_truth (Some (formats.Number f)) text a b ok r s = absurd ok
 one_truth (Some (formats.Day f)) text a b ok r s = absurd ok
 one_truth (Some (formats.Moment f)) text a b ok r s = absurd ok
 one_truth (Some (formats.Time f)) text a b ok r s = absurd ok
+one_truth (Some (formats.ZonedDay f)) text a b ok r s = absurd ok
 one_truth (Some (formats.Stamp f)) text a b ok r s = absurd ok
 one_truth (Some (formats.Expression e)) text a b ok r s = absurd (no_both false ok refl)
 
@@ -204,6 +212,7 @@ double_value one (Some (formats.Truth f)) text v w l r s = plain_value text v w 
 double_value one (Some (formats.Day f)) text v w l r s = plain_value text v w r s
 double_value one (Some (formats.Moment f)) text v w l r s = plain_value text v w r s
 double_value one (Some (formats.Time f)) text v w l r s = plain_value text v w r s
+double_value one (Some (formats.ZonedDay f)) text v w l r s = plain_value text v w r s
 double_value one (Some (formats.Stamp f)) text v w l r s = plain_value text v w r s
 double_value one (Some (formats.Expression e)) text v w l r s = plain_value text v w r s
 
@@ -230,6 +239,7 @@ double_or_code one (Some (formats.Truth f)) text v code l r m = plain_or_fault t
 double_or_code one (Some (formats.Day f)) text v code l r m = plain_or_fault text v code r m
 double_or_code one (Some (formats.Moment f)) text v code l r m = plain_or_fault text v code r m
 double_or_code one (Some (formats.Time f)) text v code l r m = plain_or_fault text v code r m
+double_or_code one (Some (formats.ZonedDay f)) text v code l r m = plain_or_fault text v code r m
 double_or_code one (Some (formats.Stamp f)) text v code l r m = plain_or_fault text v code r m
 double_or_code one (Some (formats.Expression e)) text v code l r m = plain_or_fault text v code r m
 
@@ -260,6 +270,7 @@ double_codes one (Some (formats.Truth f)) text c d l p q = plain_code text c d p
 double_codes one (Some (formats.Day f)) text c d l p q = plain_code text c d p q
 double_codes one (Some (formats.Moment f)) text c d l p q = plain_code text c d p q
 double_codes one (Some (formats.Time f)) text c d l p q = plain_code text c d p q
+double_codes one (Some (formats.ZonedDay f)) text c d l p q = plain_code text c d p q
 double_codes one (Some (formats.Stamp f)) text c d l p q = plain_code text c d p q
 double_codes one (Some (formats.Expression e)) text c d l p q = plain_code text c d p q
 
@@ -359,6 +370,7 @@ whole (Some (formats.Truth f)) cs z r = whole_group None cs z r
 whole (Some (formats.Day f)) cs z r = whole_group None cs z r
 whole (Some (formats.Moment f)) cs z r = whole_group None cs z r
 whole (Some (formats.Time f)) cs z r = whole_group None cs z r
+whole (Some (formats.ZonedDay f)) cs z r = whole_group None cs z r
 whole (Some (formats.Stamp f)) cs z r = whole_group None cs z r
 whole (Some (formats.Expression e)) cs z r = whole_group None cs z r
 
@@ -384,23 +396,29 @@ date_time_writable (Some (date_times.Second moment)) v range e =
     at_value (λ v. IsWritable v) v (values.Moment moment) (sym (same_value e)) (range moment refl)
 date_time_writable (Some (date_times.Written text)) v range e = at_value (λ v. IsWritable v) v (values.Text text) (sym (same_value e)) tt
 
-text_writable : DateTimesInRange → (t : TextType) (f : Option Format) (text : List ℕ) (v : Value) → text_value t f text ≡ Some v → IsWritable v
+date_writable : (o : Option ZonedDate) (v : Value) → ((day : ℤ) → o ≡ Some (dates.Day day) → IsDayNumber day) → date_kept o ≡ Some v → IsWritable v
+date_writable None v range e = cc
+date_writable (Some (dates.Day day)) v range e = at_value (λ v. IsWritable v) v (values.Day day) (sym (same_value e)) (range day refl)
+date_writable (Some (dates.Written text)) v range e = at_value (λ v. IsWritable v) v (values.Text text) (sym (same_value e)) tt
+
+text_writable : DateTimesInRange → ZonedDatesInRange → (t : TextType) (f : Option Format) (text : List ℕ) (v : Value) → text_value t f text ≡ Some v → IsWritable v
 unfolding text_value
-text_writable zoned types.Any f text v e = if_writable _ text v e
-text_writable zoned types.Normalized f text v e = if_writable _ text v e
-text_writable zoned types.Token f text v e = if_writable _ text v e
-text_writable zoned types.Language f text v e = if_writable _ text v e
-text_writable zoned types.Name f text v e = if_writable _ text v e
-text_writable zoned types.NameToken f text v e = if_writable _ text v e
-text_writable zoned types.QualifiedName f text v e = if_writable _ text v e
-text_writable zoned types.Xml f text v e = if_writable _ text v e
-text_writable zoned types.Html f text v e = if_writable _ text v e
-text_writable zoned types.Json f text v e = if_writable _ text v e
-text_writable zoned types.Time f text v e = kept_writable _ v e
-text_writable zoned (types.DateTime zone) f text v e = date_time_writable _ v (zoned f zone text) e
-text_writable zoned (types.Part part) f text v e = kept_writable _ v e
-text_writable zoned (types.Binary form) f text v e = kept_if_writable _ _ v e
-text_writable zoned (types.Duration kind) f text v e = kept_if_writable _ _ v e
+text_writable zoned dated types.Any f text v e = if_writable _ text v e
+text_writable zoned dated types.Normalized f text v e = if_writable _ text v e
+text_writable zoned dated types.Token f text v e = if_writable _ text v e
+text_writable zoned dated types.Language f text v e = if_writable _ text v e
+text_writable zoned dated types.Name f text v e = if_writable _ text v e
+text_writable zoned dated types.NameToken f text v e = if_writable _ text v e
+text_writable zoned dated types.QualifiedName f text v e = if_writable _ text v e
+text_writable zoned dated types.Xml f text v e = if_writable _ text v e
+text_writable zoned dated types.Html f text v e = if_writable _ text v e
+text_writable zoned dated types.Json f text v e = if_writable _ text v e
+text_writable zoned dated types.Time f text v e = kept_writable _ v e
+text_writable zoned dated types.Date f text v e = date_writable _ v (dated (zoned_format f) text) e
+text_writable zoned dated (types.DateTime zone) f text v e = date_time_writable _ v (zoned f zone text) e
+text_writable zoned dated (types.Part part) f text v e = kept_writable _ v e
+text_writable zoned dated (types.Binary form) f text v e = kept_if_writable _ _ v e
+text_writable zoned dated (types.Duration kind) f text v e = kept_if_writable _ _ v e
 
 plain_writable : (text : List ℕ) (v : Value) → ReadsPlain text v → IsWritable v
 plain_writable text v r = at_value (λ v. IsWritable v) v (values.Text r.0) r.2 tt
@@ -412,20 +430,21 @@ double_writable (Some (formats.Truth f)) text v r = plain_writable text v r
 double_writable (Some (formats.Day f)) text v r = plain_writable text v r
 double_writable (Some (formats.Moment f)) text v r = plain_writable text v r
 double_writable (Some (formats.Time f)) text v r = plain_writable text v r
+double_writable (Some (formats.ZonedDay f)) text v r = plain_writable text v r
 double_writable (Some (formats.Stamp f)) text v r = plain_writable text v r
 double_writable (Some (formats.Expression e)) text v r = plain_writable text v r
 
-pub writable : DatesInRange → MomentsInRange → DateTimesInRange → (s : Simple) (f : Option Format) (text : List ℕ) (v : Value) → ReadsAs s f text v → IsWritable v
-writable dates moments zoned simples.Text f text v r = at_value (λ v. IsWritable v) v (values.Text text) r.1 tt
-writable dates moments zoned simples.Uri f text v r = at_value (λ v. IsWritable v) v (values.Text text) r.1 tt
-writable dates moments zoned (simples.Other t) f text v r = text_writable zoned t f text v r
-writable dates moments zoned (simples.Floating t) f text v r = double_writable f text v r
-writable dates moments zoned simples.Truth f text v r = at_value (λ v. IsWritable v) v (values.Truth r.0) r.2 tt
-writable dates moments zoned simples.Whole f text v r = at_value (λ v. IsWritable v) v (values.Number r.0) r.2 (size (whole_rules f) (chars text) r.0 r.1.0)
-writable dates moments zoned (simples.Derived w) f text v r = at_value (λ v. IsWritable v) v (values.Number r.0) r.3 (size (whole_rules f) (chars text) r.0 r.1.0)
-writable dates moments zoned simples.Decimal f text v r = at_value (λ v. IsWritable v) v (values.Number r.0) r.2 (size (decimal_rules f) (chars text) r.0 r.1.0)
-writable dates moments zoned simples.Day f text v r = at_value (λ v. IsWritable v) v (values.Day r.0) r.2 (dates (date_format f) text r.0 r.1)
-writable dates moments zoned simples.Moment f text v r = at_value (λ v. IsWritable v) v (values.Moment r.0) r.2 (moments (moment_format f) text r.0 r.1)
+pub writable : DatesInRange → MomentsInRange → DateTimesInRange → ZonedDatesInRange → (s : Simple) (f : Option Format) (text : List ℕ) (v : Value) → ReadsAs s f text v → IsWritable v
+writable dates moments zoned dated simples.Text f text v r = at_value (λ v. IsWritable v) v (values.Text text) r.1 tt
+writable dates moments zoned dated simples.Uri f text v r = at_value (λ v. IsWritable v) v (values.Text text) r.1 tt
+writable dates moments zoned dated (simples.Other t) f text v r = text_writable zoned dated t f text v r
+writable dates moments zoned dated (simples.Floating t) f text v r = double_writable f text v r
+writable dates moments zoned dated simples.Truth f text v r = at_value (λ v. IsWritable v) v (values.Truth r.0) r.2 tt
+writable dates moments zoned dated simples.Whole f text v r = at_value (λ v. IsWritable v) v (values.Number r.0) r.2 (size (whole_rules f) (chars text) r.0 r.1.0)
+writable dates moments zoned dated (simples.Derived w) f text v r = at_value (λ v. IsWritable v) v (values.Number r.0) r.3 (size (whole_rules f) (chars text) r.0 r.1.0)
+writable dates moments zoned dated simples.Decimal f text v r = at_value (λ v. IsWritable v) v (values.Number r.0) r.2 (size (decimal_rules f) (chars text) r.0 r.1.0)
+writable dates moments zoned dated simples.Day f text v r = at_value (λ v. IsWritable v) v (values.Day r.0) r.2 (dates (date_format f) text r.0 r.1)
+writable dates moments zoned dated simples.Moment f text v r = at_value (λ v. IsWritable v) v (values.Moment r.0) r.2 (moments (moment_format f) text r.0 r.1)
 
 pub writable_answer : ((s : Simple) (f : Option Format) (text : List ℕ) (v : Value) → ReadsAs s f text v → IsWritable v)
     → (s : Simple) (f : Option Format) (text : List ℕ) (r : Result Value Code) → MatchResult r (ReadsAs s f text) (MisreadAs s f text) → IfOk r IsWritable
@@ -452,6 +471,7 @@ double_bound stay t (Some (formats.Truth f)) text v r = plain_bound stay t text 
 double_bound stay t (Some (formats.Day f)) text v r = plain_bound stay t text v r
 double_bound stay t (Some (formats.Moment f)) text v r = plain_bound stay t text v r
 double_bound stay t (Some (formats.Time f)) text v r = plain_bound stay t text v r
+double_bound stay t (Some (formats.ZonedDay f)) text v r = plain_bound stay t text v r
 double_bound stay t (Some (formats.Stamp f)) text v r = plain_bound stay t text v r
 double_bound stay t (Some (formats.Expression e)) text v r = plain_bound stay t text v r
 

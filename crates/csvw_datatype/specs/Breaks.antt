@@ -33,6 +33,8 @@ abbrev pub is_below : Simple → Value → Value → Bool
 is_below s (Number a) (Number b) = lt_z a b
 is_below s (Day a) (Day b) = lt_z a b
 is_below s (Moment a) (Moment b) = lt_z a b
+is_below s (Day a) (Text b) = not (is_some_and is_ge (kept_cmp s (Day a) (Text b)))
+is_below s (Text a) (Day b) = not (is_some_and is_ge (kept_cmp s (Text a) (Day b)))
 is_below s (Moment a) (Text b) = not (is_some_and is_ge (kept_cmp s (Moment a) (Text b)))
 is_below s (Text a) (Moment b) = not (is_some_and is_ge (kept_cmp s (Text a) (Moment b)))
 is_below s (Text a) (Text b) = not (is_some_and is_ge (kept_cmp s (Text a) (Text b)))
@@ -43,6 +45,8 @@ abbrev pub is_up_to : Simple → Value → Value → Bool
 is_up_to s (Number a) (Number b) = not (lt_z b a)
 is_up_to s (Day a) (Day b) = not (lt_z b a)
 is_up_to s (Moment a) (Moment b) = not (lt_z b a)
+is_up_to s (Day a) (Text b) = not (is_some_and is_gt (kept_cmp s (Day a) (Text b)))
+is_up_to s (Text a) (Day b) = not (is_some_and is_gt (kept_cmp s (Text a) (Day b)))
 is_up_to s (Moment a) (Text b) = not (is_some_and is_gt (kept_cmp s (Moment a) (Text b)))
 is_up_to s (Text a) (Moment b) = not (is_some_and is_gt (kept_cmp s (Text a) (Moment b)))
 is_up_to s (Text a) (Text b) = not (is_some_and is_gt (kept_cmp s (Text a) (Text b)))

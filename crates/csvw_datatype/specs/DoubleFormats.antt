@@ -1,5 +1,5 @@
 -- Numbers with an exponent in a format: the text of XML Schema that a text writes (Model for Tabular Data, section 6.4.2).
-use Rattle.std.specs.Prelude.{◌≡◌, ℕ, ◌⊎◌, Bool, true, false, not, Option, Some, None, is_some, List, [], ◌∷◌, ◌++◌, ℤ}
+use Rattle.std.specs.Prelude.{◌≡◌, ℕ, ◌⊎◌, Bool, true, false, not, Option, Some, None, is_some, if◌then◌else◌, List, [], ◌∷◌, ◌++◌, ℤ}
 use Rattle.std.specs.Str.{chars}
 use Rattle.csvw_datatype_core.specs.declared.number.NumberRules.{NumberRules}
 use Rattle.csvw_datatype_core.specs.declared.number.NumberFault.{NumberFault}
@@ -11,10 +11,10 @@ use Rattle.csvw_datatype_core.specs.declared.number_pattern.NumberPattern.{Numbe
 use Rattle.csvw_datatype.specs.declared.format.NumberFormat.{NumberFormat}
 use Rattle.csvw_datatype.specs.Splits.{parts_at}
 
--- The text before the first "E" and the text after it, if there is one. A pattern has no exponent, so an "E" is no exponent there.
+-- The text before the first "E" and the text after it, if there is one. Under a pattern without an exponent an "E" is before no exponent.
 abbrev pub exponent_by : Option NumberPattern → List ℕ → Option (List ℕ × List ℕ)
 exponent_by None text = parts_at 69 text
-exponent_by (Some p) text = None
+exponent_by (Some p) text = if is_some p.exponent then parts_at 69 text else None
 
 abbrev pub at_exponent : NumberFormat → List ℕ → Option (List ℕ × List ℕ)
 at_exponent f text = exponent_by f.pattern text

@@ -26,6 +26,8 @@ abbrev pub IsLess : Simple → Value → Value → Type 0
 IsLess s (Number a) (Number b) = a <ℤ b
 IsLess s (Day a) (Day b) = a <ℤ b
 IsLess s (Moment a) (Moment b) = a <ℤ b
+IsLess s (Day a) (Text b) = IsTrue (is_some_and is_ge (kept_cmp s (Day a) (Text b))) → ⊥
+IsLess s (Text a) (Day b) = IsTrue (is_some_and is_ge (kept_cmp s (Text a) (Day b))) → ⊥
 IsLess s (Moment a) (Text b) = IsTrue (is_some_and is_ge (kept_cmp s (Moment a) (Text b))) → ⊥
 IsLess s (Text a) (Moment b) = IsTrue (is_some_and is_ge (kept_cmp s (Text a) (Moment b))) → ⊥
 IsLess s (Text a) (Text b) = IsTrue (is_some_and is_ge (kept_cmp s (Text a) (Text b))) → ⊥
@@ -36,6 +38,8 @@ abbrev pub IsAtMost : Simple → Value → Value → Type 0
 IsAtMost s (Number a) (Number b) = a ≤ℤ b
 IsAtMost s (Day a) (Day b) = a ≤ℤ b
 IsAtMost s (Moment a) (Moment b) = a ≤ℤ b
+IsAtMost s (Day a) (Text b) = IsTrue (is_some_and is_gt (kept_cmp s (Day a) (Text b))) → ⊥
+IsAtMost s (Text a) (Day b) = IsTrue (is_some_and is_gt (kept_cmp s (Text a) (Day b))) → ⊥
 IsAtMost s (Moment a) (Text b) = IsTrue (is_some_and is_gt (kept_cmp s (Moment a) (Text b))) → ⊥
 IsAtMost s (Text a) (Moment b) = IsTrue (is_some_and is_gt (kept_cmp s (Text a) (Moment b))) → ⊥
 IsAtMost s (Text a) (Text b) = IsTrue (is_some_and is_gt (kept_cmp s (Text a) (Text b))) → ⊥

@@ -72,5 +72,6 @@ IsFormatOf (simples.Floating t) (Some (formats.Number f)) = IsLawful (format_rul
 IsFormatOf simples.Day (Some (formats.Day f)) = Unit {0}
 IsFormatOf simples.Moment (Some (formats.Moment f)) = Unit {0}
 IsFormatOf (simples.Other types.Time) (Some (formats.Time f)) = Unit {0}
+IsFormatOf (simples.Other types.Date) (Some (formats.ZonedDay f)) = Unit {0}
 IsFormatOf (simples.Other (types.DateTime zone)) (Some (formats.Stamp f)) = Unit {0}
 IsFormatOf _ _ = ⊥

@@ -6,7 +6,7 @@ use Rattle.csvw_datatype.specs.declared.simple.Floating.{Floating as FloatingTyp
 use Rattle.csvw_datatype.specs.declared.simple.Floating.TheVariants.{Double, Float}
 use Rattle.csvw_datatype.specs.declared.simple.TextType.{TextType}
 use Rattle.csvw_datatype.specs.declared.simple.TextType.TheVariants.{Any, Normalized, Token, Language, Name, NameToken, QualifiedName, Xml, Html, Json}
-use Rattle.csvw_datatype.specs.declared.simple.TextType.TheVariants.{Time, DateTime, Part, Binary, Duration}
+use Rattle.csvw_datatype.specs.declared.simple.TextType.TheVariants.{Time, Date, DateTime, Part, Binary, Duration}
 use Rattle.csvw_datatype_core.specs.declared.date_part.DatePart.{DatePart}
 use Rattle.csvw_datatype_core.specs.declared.date_part.DatePart.TheVariants as parts
 use Rattle.csvw_datatype_core.specs.declared.date_time.Zone.{Zone}
@@ -79,13 +79,15 @@ text_type_name Xml = codes "xml"
 text_type_name Html = codes "html"
 text_type_name Json = codes "json"
 text_type_name Time = codes "time"
+text_type_name Date = codes "date"
 text_type_name (DateTime zone) = date_time_name zone
 text_type_name (Part part) = part_name part
 text_type_name (Binary form) = binary_name form
 text_type_name (Duration kind) = duration_name kind
 
--- The type has this name, or its other name. The type that `dateTime` names has no zones.
+-- The type has this name, or its other name. The types that `date` and `dateTime` name have no zones.
 abbrev pub IsTextTypeNamed : List ℕ → TextType → Type 0
+IsTextTypeNamed name Date = ⊥
 IsTextTypeNamed name (DateTime zones.Optional) = ⊥
 IsTextTypeNamed name Any = (name ≡ codes "anyAtomicType") ⊎ (name ≡ codes "any")
 IsTextTypeNamed name (Binary form) = IsBinaryNamed name form
@@ -124,6 +126,7 @@ text_type_iri Xml = codes "http://www.w3.org/1999/02/22-rdf-syntax-ns#XMLLiteral
 text_type_iri Html = codes "http://www.w3.org/1999/02/22-rdf-syntax-ns#HTML"
 text_type_iri Json = codes "http://www.w3.org/ns/csvw#JSON"
 text_type_iri Time = codes "http://www.w3.org/2001/XMLSchema#time"
+text_type_iri Date = codes "http://www.w3.org/2001/XMLSchema#date"
 text_type_iri (DateTime zone) = date_time_iri zone
 text_type_iri (Part part) = part_iri part
 text_type_iri (Binary form) = binary_iri form

@@ -7,6 +7,7 @@ use Rattle.csvw_datatype_core.specs.declared.date_time.Zone.TheVariants as zones
 use Rattle.csvw_datatype_core.specs.Clocks.{clock_form}
 use Rattle.csvw_datatype_core.specs.DateTimes.{date_time_value}
 use Rattle.csvw_datatype_core.specs.DateParts.{is_date_part}
+use Rattle.csvw_datatype_core.specs.ZonedDates.{zoned_date_value}
 use Rattle.csvw_double.specs.Forms.{double_form}
 use Rattle.csvw_duration.specs.Forms.{duration_form}
 use Rattle.csvw_datatype.specs.declared.value.Value.{Value}
@@ -41,9 +42,11 @@ has_bounds (simples.Floating f) = true
 has_bounds (simples.Other t) = is_ordered t
 has_bounds _ = false
 
--- A value of a type of texts whose values are ordered: some text writes it. A moment in seconds has no zone.
+-- A value of a type of texts whose values are ordered: some text writes it. A day and a moment in seconds have no zone.
 abbrev pub IsTextBound : TextType → Value → Type 0
 IsTextBound types.Time (values.Text text) = is_some (clock_form clocks.Any text) ≡ true
+IsTextBound types.Date (values.Text text) = is_some (zoned_date_value None text) ≡ true
+IsTextBound types.Date (values.Day day) = IsDayNumber day
 IsTextBound (types.DateTime zone) (values.Text text) = is_some (date_time_value zone text) ≡ true
 IsTextBound (types.DateTime zones.Optional) (values.Moment moment) = IsMomentNumber moment
 IsTextBound (types.Part part) (values.Text text) = is_date_part part text ≡ true

@@ -42,6 +42,7 @@ format-prop (simples.Floating t) (Some (formats.Number f)) = lawful-prop _
 format-prop simples.Day (Some (formats.Day f)) = Unit-prop
 format-prop simples.Moment (Some (formats.Moment f)) = Unit-prop
 format-prop (simples.Other types.Time) (Some (formats.Time f)) = Unit-prop
+format-prop (simples.Other types.Date) (Some (formats.ZonedDay f)) = Unit-prop
 format-prop (simples.Other (types.DateTime zone)) (Some (formats.Stamp f)) = Unit-prop
 format-prop s (Some f) = λ x y. absurd x
 
@@ -58,6 +59,8 @@ width-prop w z = ×_prop (from-prop _ z) (to-prop _ z)
 
 text-bound-prop : (t : TextType) (v : Value) → IsProp (IsTextBound t v)
 text-bound-prop types.Time (values.Text text) = hlevel props
+text-bound-prop types.Date (values.Text text) = hlevel props
+text-bound-prop types.Date (values.Day day) = ×_prop (hlevel props) (hlevel props)
 text-bound-prop (types.DateTime zone) (values.Text text) = hlevel props
 text-bound-prop (types.DateTime zones.Optional) (values.Moment moment) = ×_prop (hlevel props) (hlevel props)
 text-bound-prop (types.Part part) (values.Text text) = hlevel props

@@ -25,15 +25,17 @@ has_length simples.Text = true
 has_length (simples.Other types.Any) = false
 has_length (simples.Other types.QualifiedName) = false
 has_length (simples.Other types.Time) = false
+has_length (simples.Other types.Date) = false
 has_length (simples.Other (types.DateTime zone)) = false
 has_length (simples.Other (types.Part part)) = false
 has_length (simples.Other (types.Duration kind)) = false
 has_length (simples.Other _) = true
 has_length _ = false
 
--- a type of texts whose values are ordered: of times, moments, parts of dates and durations
+-- a type of texts whose values are ordered: of times, dates, moments, parts of dates and durations
 abbrev pub is_ordered : TextType → Bool
 is_ordered types.Time = true
+is_ordered types.Date = true
 is_ordered (types.DateTime zone) = true
 is_ordered (types.Part part) = true
 is_ordered (types.Duration kind) = true
@@ -56,6 +58,7 @@ abbrev pub takes_expression : Simple → Bool
 takes_expression simples.Text = true
 takes_expression simples.Uri = true
 takes_expression (simples.Other types.Time) = false
+takes_expression (simples.Other types.Date) = false
 takes_expression (simples.Other (types.DateTime zone)) = false
 takes_expression (simples.Other (types.Part part)) = false
 takes_expression (simples.Other _) = true

@@ -7,12 +7,16 @@ use Rattle.csvw_fault.specs.declared.fault.Code.TheVariants.{BadDate, BadDateTim
 use Rattle.csvw_datatype_core.specs.declared.clock.ClockFormat.{ClockFormat}
 use Rattle.csvw_datatype_core.specs.declared.clock.ClockFormat.TheVariants as clocks
 use Rattle.csvw_datatype_core.specs.declared.date_time.Zone.{Zone}
-use Rattle.csvw_datatype_core.specs.DateParts.{date_part_form}
+use Rattle.csvw_datatype_core.specs.PartForms.{date_part_form}
 use Rattle.csvw_datatype_core.specs.Clocks.{clock_form}
 use Rattle.csvw_datatype_core.specs.Stamps.{stamp_value}
 use Rattle.csvw_datatype_core.specs.declared.date_time.DateTime.{DateTime}
 use Rattle.csvw_datatype_core.specs.declared.date_time.DateTime.TheVariants as date_times
 use Rattle.csvw_datatype_core.specs.DateTimes.{date_time_value}
+use Rattle.csvw_datatype_core.specs.declared.zoned_date.ZonedDate.{ZonedDate}
+use Rattle.csvw_datatype_core.specs.declared.zoned_date.ZonedDate.TheVariants as dates
+use Rattle.csvw_datatype_core.specs.declared.zoned_date.ZonedDateFormat.{ZonedDateFormat}
+use Rattle.csvw_datatype_core.specs.ZonedDates.{zoned_date_value}
 use Rattle.csvw_datatype_core.specs.Languages.{is_language}
 use Rattle.csvw_datatype_core.specs.XmlNames.{is_name, is_name_token}
 use Rattle.csvw_binary.specs.Binaries.{binary_form}
@@ -26,7 +30,7 @@ use Rattle.csvw_datatype.specs.declared.format.Format.{Format}
 use Rattle.csvw_datatype.specs.declared.format.Format.TheVariants as formats
 use Rattle.csvw_datatype.specs.Formats.{is_described}
 
--- the format of a time of day; without one it may have parts of a second
+-- the format of a time of day; without one it may have parts of a second and a zone
 abbrev pub clock_format : Option Format → ClockFormat
 clock_format (Some (formats.Time f)) = f
 clock_format _ = clocks.Any
@@ -35,6 +39,11 @@ clock_format _ = clocks.Any
 abbrev pub moment_in : Option Format → Zone → List ℕ → Option DateTime
 moment_in (Some (formats.Stamp f)) zone text = stamp_value f zone text
 moment_in _ zone text = date_time_value zone text
+
+-- the format of dates that may have a zone
+abbrev pub zoned_format : Option Format → Option ZonedDateFormat
+zoned_format (Some (formats.ZonedDay f)) = Some f
+zoned_format _ = None
 
 -- the value that is the text itself
 abbrev pub text_if : Bool → List ℕ → Option Value
@@ -55,6 +64,12 @@ date_time_kept None = None
 date_time_kept (Some (date_times.Second moment)) = Some (values.Moment moment)
 date_time_kept (Some (date_times.Written text)) = Some (values.Text text)
 
+-- a date with a zone is kept as its text
+abbrev pub date_kept : Option ZonedDate → Option Value
+date_kept None = None
+date_kept (Some (dates.Day day)) = Some (values.Day day)
+date_kept (Some (dates.Written text)) = Some (values.Text text)
+
 -- The value of a text. Each text is a value of anyAtomicType, normalizedString, token, xml, html and json, since white space was normalized before. If the
 -- format is a regular expression, it describes each text of a type that may have one.
 unfoldable pub text_value : TextType → Option Format → List ℕ → Option Value
@@ -69,6 +84,7 @@ text_value types.Xml format text = text_if (is_described format text) text
 text_value types.Html format text = text_if (is_described format text) text
 text_value types.Json format text = text_if (is_described format text) text
 text_value types.Time format text = kept (clock_form (clock_format format) text)
+text_value types.Date format text = date_kept (zoned_date_value (zoned_format format) text)
 text_value (types.DateTime zone) format text = date_time_kept (moment_in format zone text)
 text_value (types.Part part) format text = kept (date_part_form part text)
 text_value (types.Binary form) format text = kept_if (is_described format text) (binary_form form text)
@@ -76,6 +92,7 @@ text_value (types.Duration kind) format text = kept_if (is_described format text
 
 abbrev pub text_code : TextType → Code
 text_code types.Time = BadTime
+text_code types.Date = BadDate
 text_code (types.DateTime zone) = BadDateTime
 text_code (types.Part part) = BadDate
 text_code (types.Duration kind) = BadDuration

@@ -12,7 +12,7 @@ use crate::format::Format;
 use crate::simple::{Simple, TextType};
 use crate::value::Value;
 use crate::width::{UNIT, is_in_width};
-use csvw_datatype_core::{Zone, is_clock, is_date_part, is_date_time};
+use csvw_datatype_core::{Zone, is_clock, is_date_part, is_date_time, is_zoned_date};
 use csvw_double::is_double;
 use csvw_duration::is_duration;
 
@@ -85,6 +85,7 @@ fn is_format_of(simple: Simple, format: &Option<Format>) -> bool
         (Simple::Day, Some(Format::Day(_))) => true,
         (Simple::Moment, Some(Format::Moment(_))) => true,
         (Simple::Other(TextType::Time), Some(Format::Time(_))) => true,
+        (Simple::Other(TextType::Date), Some(Format::ZonedDay(_))) => true,
         (Simple::Other(TextType::DateTime(_)), Some(Format::Stamp(_))) => true,
         _ => false,
     }
@@ -136,6 +137,8 @@ fn is_text_bound(text_type: TextType, value: &Value) -> bool
 {
     match (text_type, value) {
         (TextType::Time, Value::Text(text)) => is_clock(text.as_str()),
+        (TextType::Date, Value::Text(text)) => is_zoned_date(text.as_str()),
+        (TextType::Date, Value::Day(day)) => is_day_number(*day),
         (TextType::DateTime(zone), Value::Text(text)) => is_date_time(zone, text.as_str()),
         (TextType::DateTime(Zone::Optional), Value::Moment(moment)) => is_moment_number(*moment),
         (TextType::Part(part), Value::Text(text)) => is_date_part(part, text.as_str()),

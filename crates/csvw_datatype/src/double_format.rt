@@ -18,13 +18,19 @@ fn at_first_e(text: &str) -> Option<(&str, &str)>
     text.split_once('E')
 }
 
-/// Returns the text before the exponent and the exponent, or `None` if there is no exponent. A pattern has none: an `E` there is
-/// a decimal character or a group character.
+/// Returns the text before the exponent and the exponent, or `None` if there is no exponent. Under a pattern without an exponent
+/// an `E` is a decimal character or a group character.
 fn at_exponent<'a>(format: &NumberFormat, text: &'a str) -> Option<(&'a str, &'a str)>
     ensures { option_map (λ x. (x.0.now, x.1.now)) result ≡ at_exponent format.now text.now }
 {
     match format.pattern {
-        Some(_) => None,
+        Some(pattern) => {
+            if pattern.exponent.is_some() {
+                at_first_e(text)
+            } else {
+                None
+            }
+        }
         None => at_first_e(text),
     }
 }

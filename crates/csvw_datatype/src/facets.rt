@@ -171,13 +171,13 @@ pub(crate) fn is_below(simple: Simple, a: &Value, b: &Value) -> bool
         (Value::Number(x), Value::Number(y)) => *x < *y,
         (Value::Day(x), Value::Day(y)) => *x < *y,
         (Value::Moment(x), Value::Moment(y)) => *x < *y,
-        (Value::Text(_), Value::Text(_) | Value::Moment(_)) | (Value::Moment(_), Value::Text(_)) =>
-            {
-                !matches!(
-                    compare_kept(simple, a, b),
-                    Some(Ordering::Equal | Ordering::Greater)
-                )
-            }
+        (Value::Text(_), Value::Text(_) | Value::Day(_) | Value::Moment(_))
+        | (Value::Day(_) | Value::Moment(_), Value::Text(_)) => {
+            !matches!(
+                compare_kept(simple, a, b),
+                Some(Ordering::Equal | Ordering::Greater)
+            )
+        }
         _ => false,
     }
 }
@@ -190,8 +190,10 @@ fn is_up_to(simple: Simple, a: &Value, b: &Value) -> bool
         (Value::Number(x), Value::Number(y)) => *x <= *y,
         (Value::Day(x), Value::Day(y)) => *x <= *y,
         (Value::Moment(x), Value::Moment(y)) => *x <= *y,
-        (Value::Text(_), Value::Text(_) | Value::Moment(_)) | (Value::Moment(_), Value::Text(_)) =>
-            { !matches!(compare_kept(simple, a, b), Some(Ordering::Greater)) }
+        (Value::Text(_), Value::Text(_) | Value::Day(_) | Value::Moment(_))
+        | (Value::Day(_) | Value::Moment(_), Value::Text(_)) => {
+            !matches!(compare_kept(simple, a, b), Some(Ordering::Greater))
+        }
         _ => false,
     }
 }

@@ -5,7 +5,7 @@ ghost use Rattle.csvw_datatype.specs.Formats.{is_described};
 ghost use Rattle.csvw_datatype.specs.Bars.{IsTruthText, has_bar, HasNoSplit, IsOnlySplit};
 
 use csvw_datatype_core::{
-    ClockFormat, DateFormat, MomentFormat, NumberPattern, NumberRules, StampFormat,
+    ClockFormat, DateFormat, MomentFormat, NumberPattern, NumberRules, StampFormat, ZonedDateFormat,
 };
 use csvw_regex::{Expressions, RegularExpression};
 use csvw_text::{Copied, Text};
@@ -38,12 +38,14 @@ pub enum Format {
     Truth(TruthFormat),
     /// The format of integers, derived ones too, of decimals, and of numbers with an exponent.
     Number(NumberFormat),
-    /// The format of dates.
+    /// The format of dates without zones.
     Day(DateFormat),
     /// The format of dates with a time of day, without parts of a second and zones.
     Moment(MomentFormat),
     /// The format of times of day.
     Time(ClockFormat),
+    /// The format of dates that may have a zone.
+    ZonedDay(ZonedDateFormat),
     /// The format of dates with a time of day that may have parts of a second and a zone.
     Stamp(StampFormat),
     /// The regular expression of texts (Model for Tabular Data and Metadata on the Web, section 6.4.6).
@@ -166,6 +168,7 @@ impl Format {
             Format::Day(format) => Ok(Format::Day(*format)),
             Format::Moment(format) => Ok(Format::Moment(*format)),
             Format::Time(format) => Ok(Format::Time(*format)),
+            Format::ZonedDay(format) => Ok(Format::ZonedDay(*format)),
             Format::Stamp(format) => Ok(Format::Stamp(*format)),
             Format::Expression(expression) => Ok(Format::Expression(expression.clone(alloc)?)),
         }
@@ -194,6 +197,7 @@ pub(crate) fn is_described(
             | Format::Day(_)
             | Format::Moment(_)
             | Format::Time(_)
+            | Format::ZonedDay(_)
             | Format::Stamp(_),
         )
         | None => Ok(true),

@@ -15,9 +15,9 @@ use crate::format::Format;
 use crate::simple::Simple;
 use crate::value::Value;
 use csvw_datatype_core::{
-    date_forms, date_times, number_forms, one_clock_text, one_date, one_date_part_text,
+    date_forms, date_parts_have_fields, date_times, number_forms, one_clock_text, one_date,
     one_date_text, one_date_time_text, one_moment, one_moment_text, one_number, one_number_text,
-    stamps,
+    stamps, zoned_dates,
 };
 use csvw_double::canonical_texts_stay;
 use csvw_duration::one_duration_text;
@@ -60,8 +60,9 @@ pub fn values_of_texts()
     date_times();
     canonical_texts_stay();
     stamps();
+    zoned_dates();
     one_clock_text();
-    one_date_part_text();
+    date_parts_have_fields();
     one_date_time_text();
     one_duration_text();
 }

@@ -47,8 +47,8 @@ pub use bound::bounds_read;
 pub use check::BadDatatype;
 pub use csvw_binary::BinaryForm;
 pub use csvw_datatype_core::{
-    ClockFormat, DateFormat, DatePart, FieldDigits, MomentFormat, OffsetForm, Separator,
-    StampFormat, TimeFormat, UtcMark, Zone, ZoneFormat, ZoneGap,
+    ClockFormat, ClockPattern, DateFormat, DatePart, FieldDigits, MomentFormat, OffsetForm,
+    Separator, StampFormat, TimeFormat, UtcMark, Zone, ZoneFormat, ZoneGap, ZonedDateFormat,
 };
 pub use csvw_duration::DurationKind;
 pub use csvw_regex::{Expressions, RegularExpression};

@@ -106,6 +106,7 @@ fn read_double(
             | Format::Day(_)
             | Format::Moment(_)
             | Format::Time(_)
+            | Format::ZonedDay(_)
             | Format::Stamp(_)
             | Format::Expression(_),
         )
@@ -186,6 +187,7 @@ fn fits_format(format: &Option<Format>, text: &str) -> bool
             | Format::Day(_)
             | Format::Moment(_)
             | Format::Time(_)
+            | Format::ZonedDay(_)
             | Format::Stamp(_)
             | Format::Expression(_),
         )
@@ -290,6 +292,7 @@ pub(crate) fn whole_rules(format: &Option<Format>) -> NumberRules
             | Format::Day(_)
             | Format::Moment(_)
             | Format::Time(_)
+            | Format::ZonedDay(_)
             | Format::Stamp(_)
             | Format::Expression(_),
         )
@@ -312,6 +315,7 @@ pub(crate) fn decimal_rules(format: &Option<Format>) -> NumberRules
             | Format::Day(_)
             | Format::Moment(_)
             | Format::Time(_)
+            | Format::ZonedDay(_)
             | Format::Stamp(_)
             | Format::Expression(_),
         )
@@ -333,6 +337,7 @@ fn date_format(format: &Option<Format>) -> DateFormat
             | Format::Number(_)
             | Format::Moment(_)
             | Format::Time(_)
+            | Format::ZonedDay(_)
             | Format::Stamp(_)
             | Format::Expression(_),
         )
@@ -350,6 +355,7 @@ fn moment_format(format: &Option<Format>) -> MomentFormat
             | Format::Number(_)
             | Format::Day(_)
             | Format::Time(_)
+            | Format::ZonedDay(_)
             | Format::Stamp(_)
             | Format::Expression(_),
         )

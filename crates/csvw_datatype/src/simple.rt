@@ -49,7 +49,7 @@ pub enum Floating {
 }
 
 /// A type besides `string` and `anyURI` whose values are kept as texts (Metadata Vocabulary for Tabular Data, section
-/// 5.11.1), but for whole seconds without a zone. Two of its values are the same if their texts are.
+/// 5.11.1), but for days and whole seconds without a zone. Two of its values are the same if their texts are.
 #[derive(Clone, Copy, Debug, PartialEq, Eq)]
 pub enum TextType {
     /// `anyAtomicType`: the type above all others.
@@ -74,6 +74,8 @@ pub enum TextType {
     Json,
     /// `time`: a time of day.
     Time,
+    /// `date` with zones.
+    Date,
     /// `dateTime` with zones and parts of seconds, or `dateTimeStamp`, which has to have a zone.
     DateTime(Zone),
     /// `gYear` and the like: a part of a date.
@@ -322,6 +324,7 @@ impl TextType {
             TextType::NameToken => "NMTOKEN",
             TextType::QualifiedName => "QName",
             TextType::Time => "time",
+            TextType::Date => "date",
             TextType::DateTime(zone) => date_time_name(zone),
             TextType::Part(part) => part_name(part),
             TextType::Binary(form) => binary_name(form),
@@ -352,14 +355,18 @@ impl TextType {
         }
     }
 
-    /// Returns whether the values of the type have an order, and so may be bounds: times, moments, parts of dates and durations
+    /// Returns whether the values of the type have an order, and so may be bounds: times, dates, moments, parts of dates and durations
     /// (Metadata Vocabulary for Tabular Data, section 5.11.2).
     pub fn is_ordered(self) -> bool
         ensures { result ≡ is_ordered self }
     {
         matches!(
             self,
-            TextType::Time | TextType::DateTime(_) | TextType::Part(_) | TextType::Duration(_)
+            TextType::Time
+                | TextType::Date
+                | TextType::DateTime(_)
+                | TextType::Part(_)
+                | TextType::Duration(_)
         )
     }
 
@@ -376,6 +383,7 @@ impl TextType {
             TextType::NameToken => "http://www.w3.org/2001/XMLSchema#NMTOKEN",
             TextType::QualifiedName => "http://www.w3.org/2001/XMLSchema#QName",
             TextType::Time => "http://www.w3.org/2001/XMLSchema#time",
+            TextType::Date => "http://www.w3.org/2001/XMLSchema#date",
             TextType::DateTime(zone) => date_time_iri(zone),
             TextType::Part(part) => part_iri(part),
             TextType::Binary(form) => binary_iri(form),
@@ -432,6 +440,7 @@ impl Simple {
                     TextType::Any
                         | TextType::QualifiedName
                         | TextType::Time
+                        | TextType::Date
                         | TextType::DateTime(_)
                         | TextType::Part(_)
                         | TextType::Duration(_)
@@ -451,7 +460,7 @@ impl Simple {
             Simple::Other(text_type) => {
                 !matches!(
                     text_type,
-                    TextType::Time | TextType::DateTime(_) | TextType::Part(_)
+                    TextType::Time | TextType::Date | TextType::DateTime(_) | TextType::Part(_)
                 )
             }
             Simple::Truth
@@ -464,7 +473,7 @@ impl Simple {
         }
     }
 
-    /// Returns the type of a name, or `None` if no type has it. `dateTime` is the type without zones. `datetime` is another name of
+    /// Returns the type of a name, or `None` if no type has it. `date` and `dateTime` are the types without zones. `datetime` is another name of
     /// `dateTime`, `any` of `anyAtomicType`, and `number` of `double` (Metadata Vocabulary for Tabular Data, section 5.11.1).
     pub fn of(name: &str) -> Option<Simple>
         ensures { MatchOption result ((s : Simple) → ¬ IsNamed name.now s) (IsNamed name.now) }

@@ -1,6 +1,6 @@
 //! The value of a text under a type that keeps texts.
 ghost use Rattle.std.specs.Prelude.{◌≡◌, IfOk, Some, None, if◌then◌else◌};
-ghost use Rattle.csvw_datatype.specs.TextValues.{clock_format, moment_in, text_value, text_code, text_if, kept, kept_if, date_time_kept};
+ghost use Rattle.csvw_datatype.specs.TextValues.{clock_format, moment_in, text_value, text_code, text_if, kept, kept_if, date_kept, date_time_kept, zoned_format};
 ghost use Rattle.csvw_datatype.specs.Formats.{is_described};
 
 use crate::format::{Format, is_described};
@@ -9,8 +9,8 @@ use crate::simple::TextType;
 use crate::value::Value;
 use csvw_binary::binary_text;
 use csvw_datatype_core::{
-    ClockFormat, DateTime, Zone, clock_text, date_part_text, is_language, is_name, is_name_token,
-    read_date_time, read_stamp,
+    ClockFormat, DateTime, Zone, ZonedDate, ZonedDateFormat, clock_text, date_part_text,
+    is_language, is_name, is_name_token, read_date_time, read_stamp, read_zoned_date,
 };
 use csvw_duration::duration_text;
 use csvw_regex::Expressions;
@@ -27,6 +27,7 @@ fn clock_format(format: &Option<Format>) -> ClockFormat
             | Format::Number(_)
             | Format::Day(_)
             | Format::Moment(_)
+            | Format::ZonedDay(_)
             | Format::Stamp(_)
             | Format::Expression(_),
         )
@@ -51,9 +52,29 @@ fn read_moment_in(
             | Format::Day(_)
             | Format::Moment(_)
             | Format::Time(_)
+            | Format::ZonedDay(_)
             | Format::Expression(_),
         )
         | None => read_date_time(alloc, zone, text),
+    }
+}
+
+/// Returns the format of dates that may have a zone, if there is one.
+fn zoned_format(format: &Option<Format>) -> Option<ZonedDateFormat>
+    ensures { result ≡ zoned_format format.now }
+{
+    match format {
+        Some(Format::ZonedDay(format)) => Some(*format),
+        Some(
+            Format::Truth(_)
+            | Format::Number(_)
+            | Format::Day(_)
+            | Format::Moment(_)
+            | Format::Time(_)
+            | Format::Stamp(_)
+            | Format::Expression(_),
+        )
+        | None => None,
     }
 }
 
@@ -96,6 +117,17 @@ fn date_time_kept(found: Option<DateTime>) -> Option<Value>
     }
 }
 
+/// Returns the value of a date. One with a zone is kept as its text.
+fn date_kept(found: Option<ZonedDate>) -> Option<Value>
+    ensures { result ≡ date_kept found }
+{
+    match found {
+        Some(ZonedDate::Day(day)) => Some(Value::Day(day)),
+        Some(ZonedDate::Written(text)) => Some(Value::Text(text)),
+        None => None,
+    }
+}
+
 /// Returns the value that a text is.
 ///
 /// Returns `None` if the text is no value of the type, and `AllocError` if memory runs out.
@@ -111,6 +143,7 @@ pub(crate) fn text_value(
     let alloc = expressions.alloc();
     match text_type {
         TextType::Time => Ok(kept(clock_text(alloc, clock_format(format), text)?)),
+        TextType::Date => Ok(date_kept(read_zoned_date(alloc, zoned_format(format), text)?)),
         TextType::DateTime(zone) => Ok(date_time_kept(read_moment_in(alloc, format, zone, text)?)),
         TextType::Part(part) => Ok(kept(date_part_text(alloc, part, text)?)),
         TextType::Binary(form) => {
@@ -153,7 +186,7 @@ pub(crate) fn text_code(text_type: TextType) -> Code
     match text_type {
         TextType::Time => Code::BadTime,
         TextType::DateTime(_) => Code::BadDateTime,
-        TextType::Part(_) => Code::BadDate,
+        TextType::Date | TextType::Part(_) => Code::BadDate,
         TextType::Duration(_) => Code::BadDuration,
         TextType::Any
         | TextType::Normalized

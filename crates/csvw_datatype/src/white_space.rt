@@ -30,6 +30,7 @@ fn space_of(text_type: TextType) -> WhiteSpace
         | TextType::NameToken
         | TextType::QualifiedName
         | TextType::Time
+        | TextType::Date
         | TextType::DateTime(_)
         | TextType::Part(_)
         | TextType::Binary(_)
