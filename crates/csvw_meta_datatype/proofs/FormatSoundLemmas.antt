@@ -216,6 +216,7 @@ as_whole (Some (formats.Truth f)) h = absurd h
 as_whole (Some (formats.Day f)) h = absurd h
 as_whole (Some (formats.Moment f)) h = absurd h
 as_whole (Some (formats.Time f)) h = absurd h
+as_whole (Some (formats.ZonedDay f)) h = absurd h
 as_whole (Some (formats.Stamp f)) h = absurd h
 as_whole (Some (formats.Expression e)) h = h
 
@@ -226,6 +227,7 @@ as_floating t (Some (formats.Truth f)) h = absurd h
 as_floating t (Some (formats.Day f)) h = absurd h
 as_floating t (Some (formats.Moment f)) h = absurd h
 as_floating t (Some (formats.Time f)) h = absurd h
+as_floating t (Some (formats.ZonedDay f)) h = absurd h
 as_floating t (Some (formats.Stamp f)) h = absurd h
 as_floating t (Some (formats.Expression e)) h = h
 
@@ -256,6 +258,7 @@ format_sound profile (simples.Other types.Xml) place at d = expression_sound (si
 format_sound profile (simples.Other types.Html) place at d = expression_sound (simples.Other types.Html) refl profile at d
 format_sound profile (simples.Other types.Json) place at d = expression_sound (simples.Other types.Json) refl profile at d
 format_sound profile (simples.Other types.Time) place at d = tt
+format_sound profile (simples.Other types.Date) place at d = tt
 format_sound profile (simples.Other (types.DateTime z)) place at d = tt
 format_sound profile (simples.Other (types.Part p)) place at d = tt
 format_sound profile (simples.Other (types.Binary b)) place at d = expression_sound (simples.Other (types.Binary b)) refl profile at d

@@ -11,7 +11,7 @@ use Rattle.csvw_datatype.specs.declared.simple.Floating.{Floating as FloatingTyp
 use Rattle.csvw_datatype.specs.declared.simple.Floating.TheVariants.{Double, Float}
 use Rattle.csvw_datatype.specs.declared.simple.TextType.{TextType}
 use Rattle.csvw_datatype.specs.declared.simple.TextType.TheVariants.{Any, Normalized, Token, Language, Name, NameToken, QualifiedName, Xml, Html, Json}
-use Rattle.csvw_datatype.specs.declared.simple.TextType.TheVariants.{Time, DateTime, Part, Binary, Duration}
+use Rattle.csvw_datatype.specs.declared.simple.TextType.TheVariants.{Time, Date, DateTime, Part, Binary, Duration}
 use Rattle.csvw_datatype.specs.declared.simple.Width.{Width}
 use Rattle.csvw_datatype.specs.declared.simple.Width.TheVariants.{Long, Int, Short, Byte, UnsignedLong, UnsignedInt, UnsignedShort, UnsignedByte}
 use Rattle.csvw_datatype.specs.declared.simple.Width.TheVariants.{NonNegativeInteger, PositiveInteger, NonPositiveInteger, NegativeInteger}
@@ -35,6 +35,7 @@ not_text_type name none Name e = none (Other Name) e
 not_text_type name none NameToken e = none (Other NameToken) e
 not_text_type name none QualifiedName e = none (Other QualifiedName) e
 not_text_type name none Time e = none (Other Time) e
+not_text_type name none Date e = none Day e
 not_text_type name none (DateTime zones.Optional) e = none Moment (inl e)
 not_text_type name none (DateTime zones.Required) e = none (Other (DateTime zones.Required)) e
 not_text_type name none (Part p) e = none (Other (Part p)) e
@@ -102,6 +103,7 @@ text_type_named name Name e = rw e refl
 text_type_named name NameToken e = rw e refl
 text_type_named name QualifiedName e = rw e refl
 text_type_named name Time e = rw e refl
+text_type_named name Date e = absurd e
 text_type_named name (DateTime zones.Optional) e = absurd e
 text_type_named name (DateTime zones.Required) e = rw e refl
 text_type_named name (Part parts.Year) e = rw e refl

@@ -8,7 +8,7 @@ use Rattle.csvw_fault.specs.declared.fault.Place.{Place}
 use Rattle.csvw_datatype.specs.declared.simple.Simple.{Simple}
 use Rattle.csvw_datatype.specs.declared.simple.Simple.TheVariants.{Text, Truth, Whole, Decimal, Day, Uri, Derived, Moment, Other, Floating}
 use Rattle.csvw_datatype.specs.declared.simple.TextType.TheVariants.{Any, Normalized, Token, Language, Name, NameToken, QualifiedName, Xml, Html, Json}
-use Rattle.csvw_datatype.specs.declared.simple.TextType.TheVariants.{Time, DateTime, Part, Binary, Duration}
+use Rattle.csvw_datatype.specs.declared.simple.TextType.TheVariants.{Time, Date, DateTime, Part, Binary, Duration}
 use Rattle.csvw_datatype.specs.Formats.{IsFormatOf}
 use Rattle.csvw_datatype.specs.Sound.{AreBoundsOf, IsSound, lengths_apply}
 use Rattle.csvw_datatype.specs.declared.format.Format.{Format}
@@ -49,6 +49,7 @@ no_lengths (Other Name) = refl
 no_lengths (Other NameToken) = refl
 no_lengths (Other QualifiedName) = refl
 no_lengths (Other Time) = refl
+no_lengths (Other Date) = refl
 no_lengths (Other (DateTime z)) = refl
 no_lengths (Other (Part p)) = refl
 no_lengths (Other (Binary form)) = refl

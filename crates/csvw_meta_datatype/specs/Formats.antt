@@ -19,7 +19,7 @@ use Rattle.csvw_meta_datatype.specs.declared.number.NumberFound.{NumberFound}
 use Rattle.csvw_meta_datatype.specs.declared.format.FormatFound.{FormatFound}
 use Rattle.csvw_meta_datatype.specs.Expressions.{text_expression}
 use Rattle.csvw_meta_datatype.specs.Numbers.{no_characters, number_form, pattern_code, pattern_in, patterned}
-use Rattle.csvw_meta_datatype.specs.Patterns.{clock_format, date_format, moment_format, stamp_format}
+use Rattle.csvw_meta_datatype.specs.Patterns.{clock_format, date_format, moment_format, stamp_format, zoned_date_format}
 use Rattle.csvw_meta_datatype.specs.Truths.{truth_format}
 
 abbrev pub no_format : FormatFound
@@ -59,10 +59,11 @@ expression_found (Some e) = found (formats.Expression e)
 abbrev pub expression_format : Profile → List ℕ → Data → Read FormatFound
 expression_format profile at d = under expression_found (text_expression profile at d)
 
--- The format of a type that keeps texts. That of a time of day or of a moment is a pattern, that of a part of a date is not supported, and every
+-- The format of a type that keeps texts. That of a time of day, a date or a moment is a pattern, that of a part of a date is not supported, and every
 -- other one is a regular expression.
 abbrev pub format_of_texts : Profile → TextType → List ℕ → Data → Read FormatFound
 format_of_texts profile types.Time at d = under (λ f. found (formats.Time f)) (clock_format at d)
+format_of_texts profile types.Date at d = under (λ f. found (formats.ZonedDay f)) (zoned_date_format at d)
 format_of_texts profile (types.DateTime zone) at d = under (λ f. found (formats.Stamp f)) (stamp_format at d)
 format_of_texts profile (types.Part part) at d = faulty NotSupported at no_format
 format_of_texts profile _ at d = expression_format profile at d

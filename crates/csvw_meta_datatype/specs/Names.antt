@@ -9,7 +9,7 @@ use Rattle.csvw_datatype.specs.declared.simple.Simple.{Simple}
 use Rattle.csvw_datatype.specs.declared.simple.Simple.TheVariants.{Text, Truth, Whole, Decimal, Day, Uri, Derived, Moment, Other, Floating}
 use Rattle.csvw_datatype.specs.declared.simple.Floating.TheVariants.{Double, Float}
 use Rattle.csvw_datatype.specs.declared.simple.TextType.TheVariants.{Any, Normalized, Token, Language, Name, NameToken, QualifiedName, Xml, Html, Json}
-use Rattle.csvw_datatype.specs.declared.simple.TextType.TheVariants.{Time, DateTime, Part, Binary, Duration}
+use Rattle.csvw_datatype.specs.declared.simple.TextType.TheVariants.{Time, Date, DateTime, Part, Binary, Duration}
 use Rattle.csvw_datatype.specs.declared.simple.Width.TheVariants.{Long, Int, Short, Byte, UnsignedLong, UnsignedInt, UnsignedShort, UnsignedByte}
 use Rattle.csvw_datatype.specs.declared.simple.Width.TheVariants.{NonNegativeInteger, PositiveInteger, NonPositiveInteger, NegativeInteger}
 use Rattle.csvw_datatype.specs.Names.{name_of}
@@ -47,8 +47,9 @@ is_in Core (Other t) = false
 is_in Core (Floating t) = false
 is_in profile s = true
 
--- in the profile w3c a dateTime may have a zone and parts of a second
+-- in the profile w3c a date may have a zone, and a dateTime a zone and parts of a second
 abbrev pub with_zones : Profile → Simple → Simple
+with_zones W3c Day = Other Date
 with_zones W3c Moment = Other (DateTime Optional)
 with_zones profile s = s
 

@@ -9,10 +9,12 @@ use Rattle.csvw_datatype_core.specs.declared.date.DateFormat.TheVariants.{YearFi
 use Rattle.csvw_datatype_core.specs.declared.moment.MomentFormat.{MomentFormat}
 use Rattle.csvw_datatype_core.specs.declared.moment.MomentFormat.TheVariants.{Seconds, Minutes}
 use Rattle.csvw_datatype_core.specs.declared.stamp_format.StampFormat.{StampFormat}
+use Rattle.csvw_datatype_core.specs.declared.zoned_date.ZonedDateFormat.{ZonedDateFormat}
 use Rattle.csvw_datatype_core.specs.Clocks.{clock_format_of}
 use Rattle.csvw_datatype_core.specs.DatePatterns.{moment_pattern}
 use Rattle.csvw_datatype_core.specs.PatternLists.{date_format_of, patterned_in}
 use Rattle.csvw_datatype_core.specs.StampFormats.{stamp_format_of}
+use Rattle.csvw_datatype_core.specs.ZonedDates.{zoned_format_of}
 use Rattle.csvw_meta_core.specs.declared.fault.MetaCode.TheVariants.{NotSupported}
 use Rattle.csvw_meta_core.specs.Read.{Read, fine, faulty, on_kind}
 
@@ -39,6 +41,13 @@ plain moment = record { moment = moment; digits = 0; zone = None }
 
 abbrev pub stamp_format : List ℕ → Data → Read StampFormat
 stamp_format at d = on_kind at d (plain Seconds) (as_str d) (λ s. pattern_found (plain Seconds) at (stamp_format_of s))
+
+-- without a zone
+abbrev pub plain_date : ZonedDateFormat
+plain_date = record { date = YearFirst; zone = None }
+
+abbrev pub zoned_date_format : List ℕ → Data → Read ZonedDateFormat
+zoned_date_format at d = on_kind at d plain_date (as_str d) (λ s. pattern_found plain_date at (zoned_format_of s))
 
 abbrev pub clock_format : List ℕ → Data → Read ClockFormat
 clock_format at d = on_kind at d clocks.Any (as_str d) (λ s. pattern_found clocks.Any at (clock_format_of s))

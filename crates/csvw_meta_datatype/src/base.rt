@@ -16,11 +16,13 @@ pub fn is_in(profile: Profile, simple: Simple) -> bool
     }
 }
 
-/// Returns a type as a document in a profile uses it: in the profile w3c a `dateTime` may have a zone and parts of a second.
+/// Returns a type as a document in a profile uses it: in the profile w3c a `date` may have a zone, and a `dateTime` a zone and
+/// parts of a second.
 pub fn with_zones(profile: Profile, simple: Simple) -> Simple
     ensures { result ≡ with_zones profile simple }
 {
     match (profile, simple) {
+        (Profile::W3c, Simple::Day) => Simple::Other(TextType::Date),
         (Profile::W3c, Simple::Moment) => Simple::Other(TextType::DateTime(Zone::Optional)),
         (Profile::Core | Profile::W3c, _) => simple,
     }

@@ -9,7 +9,7 @@ ghost use Rattle.csvw_meta_datatype.specs.Numbers.{number_form};
 
 use crate::expression::ExpressionReader;
 use crate::number::{PLAIN, pattern_code, pattern_in, patterned, read_number_form};
-use crate::pattern::{ClockPattern, DatePattern, MomentPattern, StampPattern};
+use crate::pattern::{ClockPattern, DatePattern, MomentPattern, StampPattern, ZonedDatePattern};
 use crate::truth::TruthPattern;
 use csvw_datatype::{Format, Simple, TextType};
 use csvw_meta_core::{MetaCode, Part, Profile, Reader, Refusal};
@@ -111,6 +111,7 @@ fn read_format_of_texts(
 {
     match text_type {
         TextType::Time => Ok(found(part, Format::Time(ClockPattern.read(part)?))),
+        TextType::Date => Ok(found(part, Format::ZonedDay(ZonedDatePattern.read(part)?))),
         TextType::DateTime(_) => Ok(found(part, Format::Stamp(StampPattern.read(part)?))),
         TextType::Any
         | TextType::Normalized

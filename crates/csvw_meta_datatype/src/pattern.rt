@@ -1,8 +1,8 @@
 //! The patterns of dates, moments and times of day (Model for Tabular Data and Metadata on the Web, section 6.4.4).
 ghost use Rattle.std.specs.Prelude.{◌≡◌};
-ghost use Rattle.csvw_meta_datatype.specs.Patterns.{core_format_of, date_format, moment_format, stamp_format, clock_format};
+ghost use Rattle.csvw_meta_datatype.specs.Patterns.{core_format_of, date_format, moment_format, stamp_format, clock_format, zoned_date_format};
 
-use csvw_datatype::{ClockFormat, DateFormat, MomentFormat, StampFormat};
+use csvw_datatype::{ClockFormat, DateFormat, MomentFormat, StampFormat, ZonedDateFormat};
 use csvw_datatype_core::date_format_of;
 use csvw_meta_core::{MetaCode, Part, Reader, Refusal};
 
@@ -16,7 +16,7 @@ fn core_format_of(pattern: &str) -> Option<MomentFormat>
     }
 }
 
-/// Reads the pattern of a date. A pattern that is not one of the fourteen is `NotSupported`.
+/// Reads the pattern of a date in the profile core. A pattern that is not one of the fourteen is `NotSupported`.
 #[derive(Drop)]
 pub struct DatePattern;
 
@@ -30,6 +30,26 @@ impl Reader for DatePattern {
             return Err(part.wrong());
         };
         match date_format_of(pattern) {
+            Some(format) => Ok(format),
+            None => Err(part.refused(MetaCode::NotSupported)),
+        }
+    }
+}
+
+/// Reads the pattern of a date that may have a zone. Another pattern is `NotSupported`.
+#[derive(Drop)]
+pub struct ZonedDatePattern;
+
+impl Reader for ZonedDatePattern {
+    type Output = ZonedDateFormat;
+
+    ghost reads = { λ _. zoned_date_format };
+
+    fn read(&self, part: &Part) -> Result<ZonedDateFormat, Refusal> {
+        let Some(pattern) = part.value.as_str() else {
+            return Err(part.wrong());
+        };
+        match ZonedDateFormat::of(pattern) {
             Some(format) => Ok(format),
             None => Err(part.refused(MetaCode::NotSupported)),
         }
@@ -78,7 +98,7 @@ impl Reader for StampPattern {
     }
 }
 
-/// Reads the pattern of a time of day that may have parts of a second. Another pattern is `NotSupported`.
+/// Reads the pattern of a time of day that may have parts of a second and a zone. Another pattern is `NotSupported`.
 #[derive(Drop)]
 pub struct ClockPattern;
 

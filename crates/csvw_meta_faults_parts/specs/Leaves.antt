@@ -29,9 +29,10 @@ use Rattle.csvw_meta_datatype.specs.Expressions.{expression_of, text_expression}
 use Rattle.csvw_meta_datatype.specs.Base.{base, simple_found}
 use Rattle.csvw_meta_datatype.specs.Names.{named_of}
 use Rattle.csvw_datatype_core.specs.Clocks.{clock_format_of}
+use Rattle.csvw_datatype_core.specs.ZonedDates.{zoned_format_of}
 use Rattle.csvw_datatype_core.specs.PatternLists.{date_format_of}
 use Rattle.csvw_datatype_core.specs.StampFormats.{stamp_format_of}
-use Rattle.csvw_meta_datatype.specs.Patterns.{clock_format, core_format_of, date_format, moment_format, pattern_found, plain, stamp_format}
+use Rattle.csvw_meta_datatype.specs.Patterns.{clock_format, core_format_of, date_format, moment_format, pattern_found, plain, plain_date, stamp_format, zoned_date_format}
 use Rattle.csvw_datatype.specs.declared.format.TruthFormat.{TruthFormat}
 use Rattle.csvw_meta_datatype.specs.Truths.{no_truths, truth_format, truth_format_of, truths_found}
 use Rattle.csvw_meta_inherited.specs.TemplateText.{template_text, told_template}
@@ -150,6 +151,11 @@ pub stamp_has_one : (at : List ℕ) (d : Data) → AtMostOne (stamp_format at d)
 stamp_has_one at d =
     of_kind BadProperty at d (plain Seconds) (as_str d) (λ s. pattern_found (plain Seconds) at (stamp_format_of s))
     (λ s. pattern_has_one (plain Seconds) at (stamp_format_of s))
+
+pub zoned_date_has_one : (at : List ℕ) (d : Data) → AtMostOne (zoned_date_format at d).faults
+zoned_date_has_one at d =
+    of_kind BadProperty at d plain_date (as_str d) (λ s. pattern_found plain_date at (zoned_format_of s))
+    (λ s. pattern_has_one plain_date at (zoned_format_of s))
 
 pub clock_has_one : (at : List ℕ) (d : Data) → AtMostOne (clock_format at d).faults
 clock_has_one at d =

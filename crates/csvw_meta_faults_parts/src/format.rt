@@ -5,7 +5,7 @@ ghost use Rattle.csvw_fault.specs.declared.fault.Place.{Place as ThePlace};
 ghost use Rattle.csvw_meta_core.specs.Pointer.{text_of};
 ghost use Rattle.csvw_meta_core.specs.Read.{property};
 ghost use Rattle.csvw_meta_datatype.specs.Formats.{expression_format, format, format_of_texts, no_format, number_format, text_format};
-ghost use Rattle.csvw_meta_faults_parts.specs.Leaves.{clock_has_one, date_has_one, expression_has_one, moment_has_one, stamp_has_one, truth_format_has_one};
+ghost use Rattle.csvw_meta_faults_parts.specs.Leaves.{clock_has_one, date_has_one, expression_has_one, moment_has_one, stamp_has_one, truth_format_has_one, zoned_date_has_one};
 
 use crate::leaf::{Leaf, OneFault};
 use crate::number::find_number_form;
@@ -13,7 +13,9 @@ use csvw_datatype::{Simple, TextType};
 use csvw_meta_core::{MetaCode, MetaFault, Part, Profile};
 use csvw_meta_datatype::expression::ExpressionReader;
 use csvw_meta_datatype::number::{PLAIN, pattern_code, pattern_in};
-use csvw_meta_datatype::pattern::{ClockPattern, DatePattern, MomentPattern, StampPattern};
+use csvw_meta_datatype::pattern::{
+    ClockPattern, DatePattern, MomentPattern, StampPattern, ZonedDatePattern,
+};
 use csvw_meta_datatype::truth::TruthPattern;
 use csvw_meta_faults_core::{add_fault, add_wrong, find_sole};
 use serde_json::Value;
@@ -21,6 +23,10 @@ use std::alloc::AllocError;
 
 impl OneFault for DatePattern {
     ghost at_most_one = { λ _. date_has_one };
+}
+
+impl OneFault for ZonedDatePattern {
+    ghost at_most_one = { λ _. zoned_date_has_one };
 }
 
 impl OneFault for MomentPattern {
@@ -96,11 +102,15 @@ fn find_format_of_texts(
     let clock = Leaf {
         reader: ClockPattern,
     };
+    let date = Leaf {
+        reader: ZonedDatePattern,
+    };
     let stamp = Leaf {
         reader: StampPattern,
     };
     match text_type {
         TextType::Time => find_sole(part, &clock, faults),
+        TextType::Date => find_sole(part, &date, faults),
         TextType::DateTime(_) => find_sole(part, &stamp, faults),
         TextType::Any
         | TextType::Normalized

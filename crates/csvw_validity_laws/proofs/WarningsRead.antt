@@ -224,6 +224,7 @@ format_quiet profile (simples.Other types.Xml) place at d = expression_quiet pro
 format_quiet profile (simples.Other types.Html) place at d = expression_quiet profile at d
 format_quiet profile (simples.Other types.Json) place at d = expression_quiet profile at d
 format_quiet profile (simples.Other types.Time) place at d = refl
+format_quiet profile (simples.Other types.Date) place at d = refl
 format_quiet profile (simples.Other (types.DateTime zone)) place at d = refl
 format_quiet profile (simples.Other (types.Part p)) place at d = refl
 format_quiet profile (simples.Other (types.Binary b)) place at d = expression_quiet profile at d
