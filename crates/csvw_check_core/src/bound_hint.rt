@@ -24,7 +24,8 @@ const DECIMAL: &str =
     "    a bound is a number with `.` before the fraction and without group characters, as \"1000.5\"\n";
 
 /// Bounds of dates.
-const DAY: &str = "    a bound is a date as yyyy-MM-dd, whatever the format is\n";
+const DAY: &str =
+    "    a bound is a date as yyyy-MM-dd, whatever the format is; with `--profile w3c` also as \"2020-01-31Z\"\n";
 
 /// Bounds of moments.
 const MOMENT: &str =
@@ -117,6 +118,7 @@ fn duration_written(kind: DurationKind) -> &'static str {
 fn text_written(text_type: TextType) -> &'static str {
     match text_type {
         TextType::Time => TIME,
+        TextType::Date => DAY,
         TextType::DateTime(Zone::Optional) => MOMENT,
         TextType::DateTime(Zone::Required) => STAMP,
         TextType::Part(part) => part_written(part),

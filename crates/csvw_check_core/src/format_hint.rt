@@ -7,7 +7,7 @@ use serde_json::Value;
 
 /// What patterns need.
 const PATTERN_NEEDED: &str =
-    "    a pattern of numbers needs the profile w3c (`--profile w3c`), and has `0`, `#`, `+`, `%`, `‰`, the decimal and the group character alone\n";
+    "    a pattern of numbers needs the profile w3c (`--profile w3c`), and has `0`, `#`, `+`, `E`, `%`, `‰`, the decimal and the group character alone\n";
 
 /// How a pattern is written.
 const PATTERN_WRITTEN: &str =
@@ -24,7 +24,8 @@ const EXPRESSION_WRITTEN: &str =
 
 /// The patterns of dates.
 const DATE_PATTERNS: &str =
-    "    the format of a date is yyyy-MM-dd, yyyyMMdd, dd-MM-yyyy, d-M-yyyy, MM-dd-yyyy or M-d-yyyy: the last four may have `/` or `.` in place of `-`\n";
+    "    the format of a date is yyyy-MM-dd, yyyyMMdd, dd-MM-yyyy, d-M-yyyy, MM-dd-yyyy or M-d-yyyy: the last four may have `/` or `.` in place of `-`; \
+     with `--profile w3c` also X at the end for a zone\n";
 
 /// The patterns of moments.
 const MOMENT_PATTERNS: &str =
@@ -38,7 +39,7 @@ const STAMP_PATTERNS: &str =
 
 /// The patterns of times of day.
 const TIME_PATTERNS: &str =
-    "    the format of a time is HH:mm:ss, HHmmss, HH:mm or HHmm, and .SSS for a fraction after HH:mm:ss\n";
+    "    the format of a time is HH:mm:ss, HHmmss, HH:mm or HHmm, then .SSS for a fraction after HH:mm:ss, and X for a zone\n";
 
 /// What a format describes.
 #[derive(Clone, Copy)]
@@ -67,7 +68,7 @@ fn described_by(datatype: &Value) -> Option<Described> {
         Simple::Whole | Simple::Decimal | Simple::Derived(_) | Simple::Floating(_) => {
             Some(Described::Numbers)
         }
-        Simple::Day => Some(Described::Dates),
+        Simple::Day | Simple::Other(TextType::Date) => Some(Described::Dates),
         Simple::Other(TextType::DateTime(Zone::Required)) => Some(Described::Stamps),
         Simple::Moment | Simple::Other(TextType::DateTime(Zone::Optional)) => {
             Some(Described::Moments)

@@ -35,6 +35,7 @@ thousands = record {
   least_fraction = 0;
   most_fraction = 18;
   mark = Plain;
+  exponent = None;
 }
 
 -- the number of a text whose group characters are before each three digits

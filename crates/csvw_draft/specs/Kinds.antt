@@ -4,6 +4,7 @@ use Rattle.std.specs.List.{filter}
 use Rattle.std.specs.Option.{is_some}
 use Rattle.std.specs.Str.{chars}
 use Rattle.csvw_datatype_core.specs.declared.number.NumberRules.{NumberRules}
+use Rattle.csvw_datatype_core.specs.declared.clock.ClockFormat.{ClockFormat}
 use Rattle.csvw_datatype_core.specs.declared.clock.ClockFormat.TheVariants as clocks
 use Rattle.csvw_datatype_core.specs.declared.date.DateFormat.{DateFormat}
 use Rattle.csvw_datatype_core.specs.declared.date.DateFormat.TheVariants.{YearFirst}
@@ -97,10 +98,14 @@ all_spaced_kinds = spaced_kinds times.Seconds date_formats ++ spaced_kinds times
 abbrev pub moment_kinds : List Kind
 moment_kinds = all_spaced_kinds ++ stamp_kinds
 
+-- times of day without seconds
+abbrev pub minutes_format : ClockFormat
+minutes_format = clocks.Pattern (record { time = times.Minutes; digits = 0; zone = None })
+
 -- the datatypes that a document of the profile w3c may use besides
 abbrev pub w3c_kinds : List Kind
 w3c_kinds =
-    (kinds.Double ∷ kinds.Time clocks.Any ∷ kinds.Time (clocks.Whole times.Minutes) ∷ kinds.MomentWithZone ∷ []) ++ moment_kinds
+    (kinds.Double ∷ kinds.Time clocks.Any ∷ kinds.Time minutes_format ∷ kinds.MomentWithZone ∷ []) ++ moment_kinds
 
 -- decimals may have a comma where `;` is the delimiter
 abbrev pub comma_kinds : ℕ → List Kind

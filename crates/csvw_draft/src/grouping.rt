@@ -47,6 +47,7 @@ const THOUSANDS: NumberPattern = NumberPattern {
     least_fraction: 0,
     most_fraction: 18,
     mark: Mark::Plain,
+    exponent: None,
 };
 
 impl GroupChar {

@@ -7,8 +7,9 @@ use crate::grouping::{Fraction, GroupChar, Grouping};
 use crate::value::{date_time_as_value, truth_of};
 use csvw_datatype::{Value, day_of, moment_of, number_of};
 use csvw_datatype_core::{
-    ClockFormat, DATE_FORMATS, DateFormat, MomentFormat, NumberRules, OffsetForm, StampFormat,
-    TimeFormat, UtcMark, Zone, ZoneFormat, ZoneGap, clock_text, read_date_time, read_stamp,
+    ClockFormat, ClockPattern, DATE_FORMATS, DateFormat, MomentFormat, NumberRules, OffsetForm,
+    StampFormat, TimeFormat, UtcMark, Zone, ZoneFormat, ZoneGap, clock_text, read_date_time,
+    read_stamp,
 };
 use csvw_double::double_of;
 use csvw_meta::Profile;
@@ -36,6 +37,13 @@ const DECIMAL_COMMA: NumberRules = NumberRules {
     allows_marks: false,
 };
 
+/// How times of day are written without seconds: `HH:mm`.
+const MINUTES: ClockFormat = ClockFormat::Pattern(ClockPattern {
+    time: TimeFormat::Minutes,
+    digits: 0,
+    zone: None,
+});
+
 /// A datatype that a draft gives to a column, with its format.
 #[derive(Clone, Copy, PartialEq, Eq)]
 pub enum Kind {
@@ -55,7 +63,7 @@ pub enum Kind {
     Moment(MomentFormat),
     /// `double`, in the profile w3c.
     Double,
-    /// `time`, in the profile w3c: in a format, or with parts of a second.
+    /// `time`, in the profile w3c: in a format, or as XML Schema writes it.
     Time(ClockFormat),
     /// `dateTime` that may have a zone and parts of a second, in the profile w3c.
     MomentWithZone,
@@ -166,7 +174,7 @@ fn push_w3c(kinds: &mut Vec<Kind>) -> Result<(), AllocError>
 {
     kinds.push(Kind::Double)?;
     kinds.push(Kind::Time(ClockFormat::Any))?;
-    kinds.push(Kind::Time(ClockFormat::Whole(TimeFormat::Minutes)))?;
+    kinds.push(Kind::Time(MINUTES))?;
     kinds.push(Kind::MomentWithZone)?;
     push_moments(kinds)
 }

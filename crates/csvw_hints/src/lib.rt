@@ -27,6 +27,7 @@ mod json_place;
 mod key_rule;
 mod no_order;
 mod other_date;
+mod other_day;
 mod other_format;
 mod other_number;
 mod other_time;

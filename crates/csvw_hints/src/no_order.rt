@@ -1,7 +1,7 @@
 //! Why a value that is neither below nor above a bound breaks it: the two have no order (XML Schema 1.1 part 2, section 4.3).
 
 use crate::tables::{TableAt, declared};
-use csvw_datatype::{Datatype, Facets, Simple, TextType, Value};
+use csvw_datatype::{Datatype, DatePart, Facets, Simple, TextType, Value};
 use csvw_text::{Code, Fault, collapse};
 use std::alloc::{AllocError, Global};
 
@@ -12,7 +12,11 @@ const NUMBERS: &str = "    NaN has no order beside a number: it breaks each boun
 const MOMENTS: &str =
     "    a moment without a zone has no order beside one with a zone that is at most 14 hours away\n";
 
-/// Parts of dates without an order.
+/// Dates, days and times of day without an order.
+const DATES: &str =
+    "    a value without a zone has no order beside one with a zone that is at most 14 hours away\n";
+
+/// Years and months without an order.
 const PARTS: &str = "    a text without a zone has no order beside the same one with a zone\n";
 
 /// Durations without an order.
@@ -24,6 +28,9 @@ fn words_of(simple: Simple) -> Option<&'static str> {
     match simple {
         Simple::Floating(_) => Some(NUMBERS),
         Simple::Other(TextType::DateTime(_)) => Some(MOMENTS),
+        Simple::Other(
+            TextType::Date | TextType::Time | TextType::Part(DatePart::MonthDay | DatePart::Day),
+        ) => Some(DATES),
         Simple::Other(TextType::Part(_)) => Some(PARTS),
         Simple::Other(TextType::Duration(_)) => Some(DURATIONS),
         _ => None,

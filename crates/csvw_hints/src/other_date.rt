@@ -1,9 +1,9 @@
-//! The formats by which a text is a date or a moment, if it is none in its column's format.
+//! The formats by which a text is a moment, if it is none in its column's format.
 
 use crate::endings::{TIMES, fraction_split, zone_split};
 use csvw_datatype_core::{
-    DATE_FORMATS, DateFormat, MomentFormat, StampFormat, TimeFormat, Zone, read_date,
-    read_date_time, read_moment, read_stamp,
+    DATE_FORMATS, DateFormat, MomentFormat, StampFormat, TimeFormat, Zone, read_date_time,
+    read_moment, read_stamp,
 };
 use std::alloc::{AllocError, Global};
 
@@ -11,40 +11,11 @@ use std::alloc::{AllocError, Global};
 const NO_ZONE: &str = "    the text has no zone: a moment without a zone is a dateTime\n";
 
 /// Returns the same format with the month first, if a format has the day first.
-fn month_first(format: DateFormat) -> Option<DateFormat> {
+pub(crate) fn month_first(format: DateFormat) -> Option<DateFormat> {
     match format {
         DateFormat::DayFirst(digits, separator) => Some(DateFormat::MonthFirst(digits, separator)),
         DateFormat::YearFirst | DateFormat::Compact | DateFormat::MonthFirst(..) => None,
     }
-}
-
-/// Returns the first format by which a text is a date, if it is one.
-fn date_format(text: &str) -> Option<DateFormat> {
-    for format in &DATE_FORMATS {
-        if read_date(*format, text).is_some() {
-            return Some(*format);
-        }
-    }
-    None
-}
-
-/// Adds the formats by which a text is a date, if it is one.
-pub(crate) fn push_date(below: &mut String, text: &str) -> Result<(), AllocError> {
-    let Some(format) = date_format(text) else {
-        return Ok(());
-    };
-    let pattern = format.pattern();
-    write!(
-        below,
-        "    the text is a date with `\"format\": \"{pattern}\"`"
-    )?;
-    if let Some(other) = month_first(format) {
-        if read_date(other, text).is_some() {
-            let pattern = other.pattern();
-            write!(below, ", or with `\"format\": \"{pattern}\"`")?;
-        }
-    }
-    below.push('\n')
 }
 
 /// Returns the format with a space and these times of day by which a text is a moment, if it is one.

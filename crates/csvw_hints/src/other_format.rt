@@ -1,6 +1,7 @@
 //! The format in which a text is a value, if it is none of its datatype as the document says.
 
-use crate::other_date::{push_date, push_moment, push_zoned};
+use crate::other_date::{push_moment, push_zoned};
+use crate::other_day::{push_date, push_zoned_date};
 use crate::other_number::{push_decimal, push_double, push_integer};
 use crate::other_time::push_time;
 use crate::tables::{TableAt, declared};
@@ -73,12 +74,13 @@ pub fn push_other_format(
         Simple::Whole | Simple::Derived(_) => push_integer(below, alloc, text),
         Simple::Decimal => push_decimal(below, alloc, text),
         Simple::Floating(_) => push_double(below, alloc, text),
-        Simple::Day => push_date(below, text),
+        Simple::Day => push_date(below, alloc, text),
+        Simple::Other(TextType::Date) => push_zoned_date(below, alloc, text),
         Simple::Moment | Simple::Other(TextType::DateTime(Zone::Optional)) => {
             push_moment(below, alloc, text)
         }
         Simple::Other(TextType::DateTime(Zone::Required)) => push_zoned(below, alloc, text),
-        Simple::Other(TextType::Time) => push_time(below, text),
+        Simple::Other(TextType::Time) => push_time(below, alloc, text),
         Simple::Text | Simple::Uri | Simple::Other(_) => Ok(()),
     }
 }

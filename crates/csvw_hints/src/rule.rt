@@ -56,6 +56,10 @@ fn push_format(text: &mut String, format: &Format) -> Result<(), AllocError> {
             text.push_str(", format ")?;
             format.push_pattern(text)
         }
+        Format::ZonedDay(format) => {
+            text.push_str(", format ")?;
+            format.push_pattern(text)
+        }
         Format::Stamp(format) => {
             text.push_str(", format ")?;
             format.push_pattern(text)

@@ -6,7 +6,7 @@ use crate::property::{Property, given, length, text};
 use crate::value::{Shown, character};
 use csvw_datatype::{
     ClockFormat, Datatype, Format, MomentFormat, NumberFormat, StampFormat, TruthFormat,
-    Value as Bound,
+    Value as Bound, ZonedDateFormat,
 };
 use serde_json::{Value, json};
 use std::alloc::{AllocError, Global};
@@ -88,6 +88,13 @@ fn clock_pattern(alloc: Global, format: ClockFormat) -> Result<Value, AllocError
     Ok(Value::String(pattern))
 }
 
+/// Returns the pattern of dates that may have a zone.
+fn zoned_date_pattern(alloc: Global, format: ZonedDateFormat) -> Result<Value, AllocError> {
+    let mut pattern = String::new(alloc);
+    format.push_pattern(&mut pattern)?;
+    Ok(Value::String(pattern))
+}
+
 /// Returns the pattern of moments that may have parts of a second and a zone.
 fn stamp_pattern(alloc: Global, format: StampFormat) -> Result<Value, AllocError> {
     let mut pattern = String::new(alloc);
@@ -103,6 +110,7 @@ pub(crate) fn format_value(alloc: Global, format: &Format) -> Result<Value, Allo
         Format::Day(day) => Value::try_from_str(alloc, day.pattern()),
         Format::Moment(moment) => moment_pattern(alloc, *moment),
         Format::Time(time) => clock_pattern(alloc, *time),
+        Format::ZonedDay(day) => zoned_date_pattern(alloc, *day),
         Format::Stamp(stamp) => stamp_pattern(alloc, *stamp),
         Format::Expression(expression) => Value::try_from_str(alloc, expression.as_str()),
     }
