@@ -128,11 +128,11 @@ static NO_JSON: [Refusal; 12] = [
 static HELPED: [Refusal; 18] = [
     Refusal {
         meta: b"{\"@context\":\"http://www.w3.org/ns/csvw\",\"url\":\"p.csv\",\"tableSchema\":{\"columns\":[{\"name\":\"a\",\"datatype\":{\"base\":\"decimal\",\n\"format\":\"#,##0.00\"}}]}}",
-        line: b"m.json:2:1: /tableSchema/columns/0/datatype/format: NotSupported: this part of the vocabulary is not supported: leave it out\n    a pattern of numbers needs the profile w3c (`--profile w3c`), and has `0`, `#`, `+`, `%`, `\xe2\x80\xb0`, the decimal and the group character alone\n",
+        line: b"m.json:2:1: /tableSchema/columns/0/datatype/format: NotSupported: this part of the vocabulary is not supported: leave it out\n    a pattern of numbers needs the profile w3c (`--profile w3c`), and has `0`, `#`, `+`, `E`, `%`, `\xe2\x80\xb0`, the decimal and the group character alone\n",
     },
     Refusal {
         meta: b"{\"@context\":\"http://www.w3.org/ns/csvw\",\"url\":\"p.csv\",\"tableSchema\":{\"columns\":[{\"name\":\"a\",\"datatype\":{\"base\":\"integer\",\"format\":{\n\"pattern\":\"000\"}}}]}}",
-        line: b"m.json:2:1: /tableSchema/columns/0/datatype/format/pattern: NotSupported: this part of the vocabulary is not supported: leave it out\n    a pattern of numbers needs the profile w3c (`--profile w3c`), and has `0`, `#`, `+`, `%`, `\xe2\x80\xb0`, the decimal and the group character alone\n",
+        line: b"m.json:2:1: /tableSchema/columns/0/datatype/format/pattern: NotSupported: this part of the vocabulary is not supported: leave it out\n    a pattern of numbers needs the profile w3c (`--profile w3c`), and has `0`, `#`, `+`, `E`, `%`, `\xe2\x80\xb0`, the decimal and the group character alone\n",
     },
     Refusal {
         meta: b"{\"@context\":\"http://www.w3.org/ns/csvw\",\"url\":\"p.csv\",\"tableSchema\":{\"columns\":[{\"name\":\"a\",\"datatype\":{\n\"format\":\"[0-9]+\"}}]}}",
@@ -140,7 +140,7 @@ static HELPED: [Refusal; 18] = [
     },
     Refusal {
         meta: b"{\"@context\":\"http://www.w3.org/ns/csvw\",\"url\":\"p.csv\",\"tableSchema\":{\"columns\":[{\"name\":\"a\",\"datatype\":{\"base\":\"date\",\n\"format\":\"yyyy/MM/dd\"}}]}}",
-        line: b"m.json:2:1: /tableSchema/columns/0/datatype/format: NotSupported: this part of the vocabulary is not supported: leave it out\n    the format of a date is yyyy-MM-dd, yyyyMMdd, dd-MM-yyyy, d-M-yyyy, MM-dd-yyyy or M-d-yyyy: the last four may have `/` or `.` in place of `-`\n",
+        line: b"m.json:2:1: /tableSchema/columns/0/datatype/format: NotSupported: this part of the vocabulary is not supported: leave it out\n    the format of a date is yyyy-MM-dd, yyyyMMdd, dd-MM-yyyy, d-M-yyyy, MM-dd-yyyy or M-d-yyyy: the last four may have `/` or `.` in place of `-`; with `--profile w3c` also X at the end for a zone\n",
     },
     Refusal {
         meta: b"{\"@context\":\"http://www.w3.org/ns/csvw\",\"url\":\"p.csv\",\"tableSchema\":{\"columns\":[{\"name\":\"a\",\"datatype\":{\"base\":\"dateTime\",\n\"format\":\"yyyy-MM-dd HH:mm\"}}]}}",
@@ -172,7 +172,7 @@ static HELPED: [Refusal; 18] = [
     },
     Refusal {
         meta: b"{\"@context\":\"http://www.w3.org/ns/csvw\",\"url\":\"p.csv\",\"tableSchema\":{\"columns\":[{\"name\":\"a\",\"datatype\":{\"base\":\"date\",\"format\":\"dd.MM.yyyy\",\n\"minimum\":\"01.01.2024\"}}]}}",
-        line: b"m.json:2:1: /tableSchema/columns/0/datatype/minimum: BadDatatype: the datatype cannot have this format or these facets\n    a bound is a date as yyyy-MM-dd, whatever the format is\n",
+        line: b"m.json:2:1: /tableSchema/columns/0/datatype/minimum: BadDatatype: the datatype cannot have this format or these facets\n    a bound is a date as yyyy-MM-dd, whatever the format is; with `--profile w3c` also as \"2020-01-31Z\"\n",
     },
     Refusal {
         meta: b"{\"@context\":\"http://www.w3.org/ns/csvw\",\"url\":\"p.csv\",\"tableSchema\":{\"columns\":[{\"name\":\"a\",\"datatype\":{\"base\":\"decimal\",\n\"maximum\":0.5}}]}}",

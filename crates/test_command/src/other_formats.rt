@@ -48,6 +48,17 @@ const DATES: &str = r#"
     datatype date, format dd.MM.yyyy
     the text is a date with `"format": "yyyy-MM-dd"`
 
+"date" | 2020-01-31Z
+    datatype date
+    the text is a date with `--profile w3c`, if the datatype has no `format`
+
+"date" | 20200131 +0100
+    datatype date
+    the text is a date with `--profile w3c` and `"format": "yyyyMMdd XX"`
+
+"date" | 2020-01-31+15:00
+    datatype date
+
 "date" | 2020-01-31T08:30
     datatype date
 
@@ -175,13 +186,28 @@ const TIMES: &str = r#"
     datatype time, format HH:mm:ss.S
     the text is a time with `"format": "HH:mm:ss.SSS"`
 
-"time" | 08:30:00Z
-    datatype time
-    a time has no zone: leave it out
+{"base":"time","format":"HH:mm:ss"} | 08:30:00Z
+    datatype time, format HH:mm:ss
+    the text is a time with `"format": "HH:mm:ssX"`
 
-"time" | 08:30:00.5 +01:00
+"time" | 08:30:00.5 +0100
     datatype time
-    a time has no zone: leave it out
+    the text is a time with `"format": "HH:mm:ss.S XX"`
+
+"time" | 08:30:00 +15:00
+    datatype time
+
+"date" | 31/01/2020Z
+    datatype date
+    the text is a date with `"format": "dd/MM/yyyyX"`
+
+{"base":"date","format":"dd/MM/yyyy"} | 2020-01-31+01:00
+    datatype date, format dd/MM/yyyy
+    the text is a date, if the datatype has no `format`
+
+{"base":"date","format":"yyyy-MM-ddX"} | 31.01.2020
+    datatype date, format yyyy-MM-ddX
+    the text is a date with `"format": "dd.MM.yyyy"`
 
 "time" | 08:30:00.
     datatype time

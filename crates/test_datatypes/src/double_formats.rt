@@ -69,7 +69,7 @@ const FORMATTED: &str = r##"
 
 /// Formats that no number can have.
 const REFUSED: &str = r##"
-{"base":"double","format":"0.###E0"} => NotSupported /format
+{"base":"double","format":"0.###E"} => BadDatatype /format
 {"base":"double","format":{"pattern":"#0#"}} => BadDatatype /format/pattern
 {"base":"number","format":{"decimalChar":"--"}} => BadDatatype /format/decimalChar
 {"base":"float","format":{"groupChar":"."}} => BadDatatype /format

@@ -52,3 +52,5 @@ mod stamps;
 mod temporal_bounds;
 #[cfg(test)]
 mod tree_ops;
+#[cfg(test)]
+mod zones;

@@ -65,7 +65,6 @@ const TIMES: &str = r#"
     23:59:59.9999999999999999999999999999 => 23:59:59.9999999999999999999999999999
     15:02:37.000 => 15:02:37
     15:02:37. => !BadTime
-    15:02:37.5Z => !BadTime
     15:02.5 => !BadTime
     24:00:00.0 => !BadTime
 "#;
@@ -176,10 +175,12 @@ const REFUSED: &str = r#"
 {"base":"time","format":"HH:mm.S"} => NotSupported /format
 {"base":"time","format":"HHmmss.S"} => NotSupported /format
 {"base":"time","format":"HH:mm:ss."} => NotSupported /format
-{"base":"time","format":"HH:mm:ssX"} => NotSupported /format
-{"base":"time","format":"HH:mm:ss.SSS X"} => NotSupported /format
-{"base":"time","format":"HH:mm:ss.SSS","maximum":"17:00:00Z"} => BadDatatype /maximum
-{"base":"date","format":"yyyy-MM-ddX"} => NotSupported /format
+{"base":"time","format":"HH:mm:ssxX"} => NotSupported /format
+{"base":"time","format":"HH:mm:ss.SSS  X"} => NotSupported /format
+{"base":"time","format":"HH:mm:ss.SSS","maximum":"17:00:00+15:00"} => BadDatatype /maximum
+{"base":"date","format":"yyyy-MM-ddXX\u0058X"} => NotSupported /format
+{"base":"date","format":"yyyy-MM-dd.SX"} => NotSupported /format
+{"base":"date","format":"dd/MM/yyyyX","minimum":"29/02/2024Z"} => BadDatatype /minimum
 {"base":"gYear","format":"yyyyX"} => NotSupported /format
 {"base":"gYearMonth","format":"yyyy-MM X"} => NotSupported /format
 "#;

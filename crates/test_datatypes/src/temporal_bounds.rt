@@ -1,4 +1,4 @@
-//! Tests of the bounds of times of day, moments with zones, parts of dates and durations in the profile w3c (Metadata Vocabulary for
+//! Tests of the bounds of times of day, dates and moments with zones, parts of dates and durations in the profile w3c (Metadata Vocabulary for
 //! Tabular Data, section 5.11.2; XML Schema 1.1 part 2, sections 3.3.5 to 3.3.14, and 4.3.7). A value without an order beside a bound
 //! breaks it.
 use crate::cells::{Check, each_cell, each_refusal};
@@ -135,7 +135,13 @@ const REFUSED: &str = r#"
 {"base":"dayTimeDuration","minExclusive":36} => BadProperty /minExclusive
 {"base":"time","maxExclusive":"24:00:00"} => BadDatatype /maxExclusive
 {"base":"time","minimum":"08:30"} => BadDatatype /minimum
-{"base":"time","maximum":"08:30:00Z"} => BadDatatype /maximum
+{"base":"time","maximum":"08:30:00z"} => BadDatatype /maximum
+{"base":"date","minimum":"2020-01-31+15:00"} => BadDatatype /minimum
+{"base":"date","maximum":20200131} => BadProperty /maximum
+{"base":"date","minimum":"2020-01-31Z","maximum":"2020-01-31"} => BadDatatype
+{"base":"date","minimum":"2020-02-01+13:00","maxExclusive":"2020-01-31-11:00"} => BadDatatype
+{"base":"time","minimum":"08:30:00Z","maximum":"09:29:59+01:00"} => BadDatatype
+{"base":"gDay","minimum":"---02+13:00","maxExclusive":"---01-11:00"} => BadDatatype
 {"base":"dateTime","minInclusive":"2020-01-31"} => BadDatatype /minInclusive
 {"base":"dateTime","maxInclusive":"2020-01-31T08:30:00+15:00"} => BadDatatype /maxInclusive
 {"base":"dateTimeStamp","minExclusive":"2020-01-31T08:30:00"} => BadDatatype /minExclusive
@@ -191,6 +197,7 @@ const REFUSED_IN_CORE: &str = r#"
 {"base":"dayTimeDuration","minimum":"PT36H"} => NotSupported /base
 {"base":"gYear","minimum":2015} => NotSupported /base
 {"base":"dateTime","minimum":"2020-01-31T08:30:00Z"} => BadDatatype /minimum
+{"base":"date","minimum":"2020-01-31Z"} => BadDatatype /minimum
 {"base":"dateTime","maximum":"2020-01-31T08:30:00.5"} => BadDatatype /maximum
 {"base":"dateTime","minExclusive":20200131} => BadProperty /minExclusive
 {"base":"dateTime","minimum":"2020-01-31T08:30:01","maximum":"2020-01-31T08:30:00"} => BadDatatype
@@ -202,6 +209,10 @@ const UNORDERED: &str = r#"
     2020-01-31T12:00:00Z => 2020-01-31T12:00:00Z !BelowMinimum !AboveMaximum
 {"base":"dateTime","minExclusive":"2020-01-31T00:00:00Z","maxExclusive":"2020-02-01T00:00:00Z"} : dateTime
     2020-01-31T12:00:00 => 2020-01-31T12:00:00 !BelowMinimum !AboveMaximum
+{"base":"date","minimum":"2020-01-31","maximum":"2020-01-31"} : date
+    2020-01-31Z => 2020-01-31Z !BelowMinimum !AboveMaximum
+{"base":"time","minimum":"08:30:00Z","maximum":"08:30:00Z"} : time
+    08:30:00 => 08:30:00 !BelowMinimum !AboveMaximum
 {"base":"gYear","minInclusive":"2015","maxInclusive":"2015"} : gYear
     2015Z => 2015Z !BelowMinimum !AboveMaximum
 {"base":"gMonth","minExclusive":"--03Z","maxExclusive":"--03Z"} : gMonth

@@ -9,10 +9,11 @@ use crate::patterns::PATTERNED;
 use crate::readings::{BOUNDS, DATE_FORMATS, DATES, FULL, NO_FORMATS, NUMBERS, TEXTS};
 use crate::spaced_moments::UNREAD;
 use crate::stamps::{FRACTIONS, NO_STAMPS, WITH_ZONES};
+use crate::zones::{ZONED_DATES, ZONED_TIMES};
 use csvw_datatype::{
     BinaryForm, Broken, ClockFormat, Datatype, DateFormat, DatePart, DurationKind, Facets,
     Floating, Format, MomentFormat, NumberFormat, RegularExpression, Simple, StampFormat, TextType,
-    TruthFormat, Value, Width, Zone,
+    TruthFormat, Value, Width, Zone, ZonedDateFormat,
 };
 use csvw_datatype_core::NumberPattern;
 use csvw_text::Text;
@@ -37,6 +38,8 @@ pub(crate) enum Pattern {
     Truth(&'static str),
     /// A format of times of day.
     Time(&'static str),
+    /// The pattern of dates that may have a zone.
+    ZonedDay(&'static str),
     /// A format of moments that may have parts of a second and a zone.
     Stamp(&'static str),
     /// A regular expression.
@@ -148,6 +151,7 @@ fn format_of(alloc: Global, pattern: &Pattern) -> Result<Option<Format>, AllocEr
         Pattern::Moment(text) => Ok(MomentFormat::of(text).map(Format::Moment)),
         Pattern::Truth(text) => truth_format_of(alloc, text),
         Pattern::Time(text) => Ok(ClockFormat::of(text).map(Format::Time)),
+        Pattern::ZonedDay(text) => Ok(ZonedDateFormat::of(text).map(Format::ZonedDay)),
         Pattern::Stamp(text) => Ok(StampFormat::of(text).map(Format::Stamp)),
         Pattern::Expression(text) => expression_of(alloc, text),
     }
@@ -330,6 +334,8 @@ fn all_hold(rt: &impl Abort, alloc: Global) -> Result<(), AllocError> {
         &FRACTIONS,
         &WITH_ZONES,
         &NO_STAMPS,
+        &ZONED_TIMES,
+        &ZONED_DATES,
     ] {
         rows_hold(rt, alloc, rows)?;
     }

@@ -57,3 +57,5 @@ mod temporal_order;
 mod texts;
 #[cfg(test)]
 mod writing;
+#[cfg(test)]
+mod zones;

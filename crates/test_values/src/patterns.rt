@@ -1,12 +1,12 @@
 //! Texts of numbers under patterns (Model for Tabular Data and Metadata on the Web, section 6.4.2; Unicode Technical Standard
 //! 35, part 3).
 use crate::datatypes::{PLAIN, Pattern, Row};
-use csvw_datatype::{NumberFormat, Simple, Width};
+use csvw_datatype::{Floating, NumberFormat, Simple, Width};
 use csvw_datatype_core::{NumberPattern, PatternFault};
 use std::alloc::{AllocError, Global};
 use std::test::Fail;
 
-pub(crate) static PATTERNED: [Row; 15] = [
+pub(crate) static PATTERNED: [Row; 26] = [
     Row {
         simple: Simple::Decimal,
         pattern: Pattern::Written('.', Some(','), "#,##0.00"),
@@ -97,6 +97,72 @@ pub(crate) static PATTERNED: [Row; 15] = [
         texts: "5%=>BadInteger;5=>BadInteger",
         ..PLAIN
     },
+    Row {
+        simple: Simple::Floating(Floating::Double),
+        pattern: Pattern::Written('.', Some(','), "#0.###E0"),
+        texts: SCIENTIFIC,
+        ..PLAIN
+    },
+    Row {
+        simple: Simple::Floating(Floating::Double),
+        pattern: Pattern::Written('.', Some(','), "0E0"),
+        texts: "1E3=>1000;7E-2=>0.07;12E3=>BadDouble;1.0E3=>BadDouble;1000=>BadDouble;=>BadDouble",
+        ..PLAIN
+    },
+    Row {
+        simple: Simple::Floating(Floating::Double),
+        pattern: Pattern::Written('.', Some(','), "00.0E+00"),
+        texts: "12.5E+03=>12500;01.0E-10=>1e-10;12.5E+003=>12500;12.5E03=>BadDouble;12.5E+3=>BadDouble;1.5E+03=>BadDouble",
+        ..PLAIN
+    },
+    Row {
+        simple: Simple::Floating(Floating::Double),
+        pattern: Pattern::Written('.', Some(','), "+0.0E0"),
+        texts: "+1.5E3=>1500;-1.5E3=>-1500;1.5E3=>BadDouble",
+        ..PLAIN
+    },
+    Row {
+        simple: Simple::Floating(Floating::Double),
+        pattern: Pattern::Written('.', Some(','), "#E0"),
+        texts: "5E1=>50;55E1=>BadDouble;E1=>BadDouble",
+        ..PLAIN
+    },
+    Row {
+        simple: Simple::Floating(Floating::Double),
+        pattern: Pattern::Written('.', Some(','), ".0E0"),
+        texts: ".5E1=>5;0.5E1=>BadDouble",
+        ..PLAIN
+    },
+    Row {
+        simple: Simple::Floating(Floating::Double),
+        pattern: Pattern::Written(',', Some('.'), "0,0E0"),
+        texts: "1,5E3=>1500;1.5E3=>BadDouble",
+        ..PLAIN
+    },
+    Row {
+        simple: Simple::Floating(Floating::Double),
+        pattern: Pattern::Written('E', Some(','), "0E0"),
+        texts: "1E5=>1.5;15=>BadDouble",
+        ..PLAIN
+    },
+    Row {
+        simple: Simple::Floating(Floating::Double),
+        pattern: Pattern::Written('.', Some('E'), "#E##0"),
+        texts: "1E234=>1234;1234=>BadDouble",
+        ..PLAIN
+    },
+    Row {
+        simple: Simple::Whole,
+        pattern: Pattern::Written('.', Some(','), "0E0"),
+        texts: "1E3=>BadInteger;1=>BadInteger",
+        ..PLAIN
+    },
+    Row {
+        simple: Simple::Decimal,
+        pattern: Pattern::Written('.', Some(','), "0.0E0"),
+        texts: "1.0E3=>BadDecimal;1.0=>BadDecimal",
+        ..PLAIN
+    },
 ];
 
 const MONEY: &str = "\
@@ -118,8 +184,35 @@ const MONEY: &str = "\
 5.00%=>BadDecimal;\
 1.00e2=>BadDecimal";
 
+const SCIENTIFIC: &str = "\
+12.5E3=>12500;\
+1E3=>1000;\
+0E0=>0;\
+-1.5E10=>-15000000000;\
++1E+2=>100;\
+1E-05=>0.00001;\
+99.999E-1=>9.9999;\
+123E3=>BadDouble;\
+1e3=>BadDouble;\
+1=>BadDouble;\
+E3=>BadDouble;\
+1E=>BadDouble;\
+1E+=>BadDouble;\
+1E+-3=>BadDouble;\
+1E3E3=>BadDouble;\
+1E3.0=>BadDouble;\
+1.E3=>BadDouble;\
+1.2345E3=>BadDouble;\
+.5E3=>BadDouble;\
+1,2E3=>BadDouble;\
+1%E3=>BadDouble;\
+1E3%=>BadDouble;\
+INF=>BadDouble;\
+NaN=>BadDouble;\
+1E1000000000000000000=>NumberTooLong";
+
 /// Texts that are no pattern with the characters `.` and `,`, and why.
-static NO_PATTERNS: [(&str, PatternFault); 24] = [
+static NO_PATTERNS: [(&str, PatternFault); 41] = [
     ("", PatternFault::Bad),
     ("+", PatternFault::Bad),
     (".", PatternFault::Bad),
@@ -139,7 +232,24 @@ static NO_PATTERNS: [(&str, PatternFault); 24] = [
     ("0%‰", PatternFault::Bad),
     ("0+", PatternFault::Bad),
     ("#,##,###,##0", PatternFault::Bad),
-    ("0E0", PatternFault::Unknown),
+    ("E", PatternFault::Bad),
+    ("E0", PatternFault::Bad),
+    ("0E", PatternFault::Bad),
+    ("0E+", PatternFault::Bad),
+    ("0E0E0", PatternFault::Bad),
+    ("#,##0E0", PatternFault::Bad),
+    ("0%E0", PatternFault::Bad),
+    ("0E0%", PatternFault::Bad),
+    ("0E#", PatternFault::Bad),
+    ("0E0#", PatternFault::Bad),
+    ("0E++0", PatternFault::Bad),
+    ("0E0+", PatternFault::Bad),
+    ("0E0.0", PatternFault::Bad),
+    ("0#E0", PatternFault::Bad),
+    ("0.E0", PatternFault::Bad),
+    ("0E-0", PatternFault::Unknown),
+    ("0e0", PatternFault::Unknown),
+    ("0E1", PatternFault::Unknown),
     ("0;(0)", PatternFault::Unknown),
     ("-0", PatternFault::Unknown),
     ("1", PatternFault::Unknown),
@@ -147,7 +257,7 @@ static NO_PATTERNS: [(&str, PatternFault); 24] = [
 ];
 
 /// Patterns, each with the text that shows it.
-static SHOWN: [(&str, &str); 10] = [
+static SHOWN: [(&str, &str); 16] = [
     ("0", "0"),
     ("000", "000"),
     ("#", "#"),
@@ -158,6 +268,12 @@ static SHOWN: [(&str, &str); 10] = [
     ("0,000,000", "0,000,000"),
     ("+0.0%", "+0.0%"),
     ("#.0‰", ".0‰"),
+    ("0E0", "0E0"),
+    ("#0.###E0", "#0.###E0"),
+    ("##0.0E+00", "##0.0E+00"),
+    ("+#E0", "+#E0"),
+    (".0E0", ".0E0"),
+    ("#00E000", "#00E000"),
 ];
 
 /// The characters of the patterns.

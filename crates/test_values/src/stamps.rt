@@ -163,14 +163,19 @@ static NO_MOMENTS: [&str; 17] = [
 ];
 
 /// Texts that are no pattern of times of day.
-static NO_TIMES: [&str; 8] = [
+static NO_TIMES: [&str; 13] = [
     "",
     "HH:mm:ss.",
     "HH:mm.S",
     "HHmmss.S",
     "HH:mm:ss..S",
     "HH:mm:ssS",
-    "HH:mm:ssX",
+    "HH:mm:ssxxxx",
+    "HH:mm:ssxX",
+    "HH:mm:ss  X",
+    "HH:mm:ssX.S",
+    "HH:mmX ",
+    "X",
     "yyyy-MM-ddTHH:mm:ss",
 ];
 
