@@ -142,7 +142,7 @@ Example:
     metadata.json: {"@context":"http://www.w3.org/ns/csvw","url":"t.csv","tableSchema":{"columns":[{"name":"n","datatype":"date"}]}}
     t.csv: n\n2023-02-29\n
 
-Instead: Write `2024-02-29`, or describe the format: `{"base": "date", "format": "dd.MM.yyyy"}`.
+Instead: Write `2024-02-29`, or describe the format: `{"base": "date", "format": "dd.MM.yyyy"}`. With `--profile w3c` a zone may follow, as in `2024-02-29Z`. With a format the format says whether it does, as `yyyy-MM-ddX`.
 
 Section: Model for Tabular Data, section 6.4.4.
 
@@ -181,7 +181,7 @@ Example:
     metadata.json: {"@context":"http://www.w3.org/ns/csvw","url":"t.csv","tableSchema":{"columns":[{"name":"n","datatype":"time"}]}}
     t.csv: n\n15:02\n
 
-Instead: Write `15:02:00` or `15:02:00.5`, without a zone, or describe the format: `HH:mm`, `HHmm`, `HHmmss` or `HH:mm:ss.SSS`. The datatype `time` needs `--profile w3c`.
+Instead: Write `15:02:00` or `15:02:00.5`, or describe the format: `HH:mm`, `HHmm`, `HHmmss` or `HH:mm:ss.SSS`. A zone may follow, as in `15:02:00Z`. With a format the format says whether it does, as `HH:mm:ssX`. The datatype `time` needs `--profile w3c`.
 
 Section: Model for Tabular Data, section 6.4.4.
 
@@ -252,7 +252,7 @@ Section: Metadata Vocabulary, section 5.11.2.
 
 ## BelowMinimum (fault of a table)
 
-A value is below its least value. Or the two have no order, as `P30D` and `P1M`, or as two moments of which only one has a zone.
+A value is below its least value. Or the two have no order, as `P30D` and `P1M`, or as two moments, dates or times of which only one has a zone.
 
 Example:
 
@@ -265,7 +265,7 @@ Section: Metadata Vocabulary, section 5.11.2.
 
 ## AboveMaximum (fault of a table)
 
-A value is above its greatest value. Or the two have no order, as `P30D` and `P1M`, or as two moments of which only one has a zone.
+A value is above its greatest value. Or the two have no order, as `P30D` and `P1M`, or as two moments, dates or times of which only one has a zone.
 
 Example:
 
