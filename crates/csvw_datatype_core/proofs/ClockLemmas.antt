@@ -30,7 +30,7 @@ range_by h true b p q low = (omega (arith, ints), omega (arith, ints))
 range_by h false true p q low = (omega (arith, ints), omega (arith, ints))
 range_by h false false p q low = (omega (arith, ints, low), omega (arith, ints))
 
-in_range : (h : ℕ) → h < 52 → IsOffset (zoned_minutes h)
+pub in_range : (h : ℕ) → h < 52 → IsOffset (zoned_minutes h)
 in_range h low = range_by h (nat_lt h 14) (nat_lt h 38) refl refl low
 
 -- ---- the second that is written
@@ -40,16 +40,16 @@ hour_by h true b p q = omega arith
 hour_by h false true p q = let less : h < 38 = grind (arith, nat_tests) in omega (arith, less)
 hour_by h false false p q = omega arith
 
-hour_low : (h : ℕ) → zoned_hour h < 24
+pub hour_low : (h : ℕ) → zoned_hour h < 24
 hour_low h = hour_by h (nat_lt h 14) (nat_lt h 38) refl refl
 
-abbrev second_in : ℕ → ℕ → ℕ
+abbrev pub second_in : ℕ → ℕ → ℕ
 second_in hour n = hour * 3600 + (n / 60 % 60) * 60 + n % 60
 
-abbrev counted : ℕ → ℤ → ℤ
+abbrev pub counted : ℕ → ℤ → ℤ
 counted second minutes = (pos second +ℤ (minutes *ℤ neg_ℤ (pos 60))) +ℤ pos 50_400
 
-count_by : (n : ℕ) (a b : Bool) → nat_lt (n / 3600) 14 ≡ a → nat_lt (n / 3600) 38 ≡ b
+pub count_by : (n : ℕ) (a b : Bool) → nat_lt (n / 3600) 14 ≡ a → nat_lt (n / 3600) 38 ≡ b
     → counted (second_in (if a then 0 else (if b then n / 3600 - 14 else 23)) n)
     (if a then pos ((14 - n / 3600) * 60) else (if b then pos 0 else neg_ℤ (pos ((n / 3600 - 37) * 60)))) ≡ pos n
 count_by n true b p q = let less : n / 3600 < 14 = grind (arith, nat_tests) in omega (arith, ints, less)
@@ -59,18 +59,18 @@ count_by n false false p q = let more : 38 ≤ n / 3600 = grind (arith, nat_test
 second_back : (n : ℕ) → zoned_second (second_in (zoned_hour (n / 3600)) n) (zoned_minutes (n / 3600)) ≡ n
 second_back n = ap unsigned_abs (count_by n (nat_lt (n / 3600) 14) (nat_lt (n / 3600) 38) refl refl)
 
-local_back : (n : ℕ) → second_in (n / 3600) n ≡ n
+pub local_back : (n : ℕ) → second_in (n / 3600) n ≡ n
 local_back n = omega arith
 
 -- ---- a text is read again
 
-abbrev Found : Type 0
+abbrev pub Found : Type 0
 Found = ℕ × List ℕ × Option ℤ
 
-abbrev text_of : Found → List ℕ
+abbrev pub text_of : Found → List ℕ
 text_of x = clock_text x.0 x.1 x.2
 
-parts_again : (hour n : ℕ) (ds rest : List ℕ) (minutes : Option ℤ) → hour < 24 → IsKept ds → IsRest rest → zone_at rest ≡ Some minutes
+pub parts_again : (hour n : ℕ) (ds rest : List ℕ) (minutes : Option ℤ) → hour < 24 → IsKept ds → IsRest rest → zone_at rest ≡ Some minutes
     → clock_parts clocks.Any (clock_in hour n ++ (fraction_text ds ++ rest)) ≡ Some (second_in hour n, ds, minutes)
 unfolding clock_parts
 parts_again hour n ds rest minutes low kept none zone =

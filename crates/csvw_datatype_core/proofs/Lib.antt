@@ -40,4 +40,5 @@ mod ZoneLemmas
 mod ClockFormatLemmas
 mod OffsetLemmas
 mod ClockLemmas
+mod ClockStarts
 mod ZonedDateLemmas

@@ -68,6 +68,10 @@ clock_parts clocks.Any bs = do
 abbrev pub clock_instant : List ℕ → Option Moment
 clock_instant bs = option_map (λ (x : ℕ × List ℕ × Option ℤ). placed_instant (pos x.0) x.1 x.2) (clock_parts clocks.Any bs)
 
+-- the moment of the time of day that a text writes in a format
+abbrev pub clock_start : ClockFormat → List ℕ → Option Moment
+clock_start format bs = option_map (λ (x : ℕ × List ℕ × Option ℤ). placed_instant (pos x.0) x.1 x.2) (clock_parts format bs)
+
 -- ---- the one text
 
 -- A zone is at most 14 hours ahead of "Z", or behind it. So the seconds of a time of day in the zone "Z" are counted from 14 hours before its day.

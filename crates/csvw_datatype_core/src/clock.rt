@@ -1,8 +1,9 @@
 //! How a text writes a time of day that may have parts of a second and a zone.
-ghost use Rattle.std.specs.Prelude.{◌≡◌, ◌≢◌, ◌++◌, ◌<◌, true, IfOk, IfSome, MatchOption, OnOk, List, ℕ, Some, is_some, string_bytes};
+ghost use Rattle.std.specs.Prelude.{◌≡◌, ◌≢◌, ◌↔◌, ◌++◌, ◌<◌, true, IfOk, IfSome, MatchOption, OnOk, List, ℕ, Some, is_some, string_bytes};
 ghost use Rattle.std.specs.Str.{IsAscii};
 ghost use Rattle.csvw_datatype_core.specs.declared.clock.ClockFormat.TheVariants as clocks;
-ghost use Rattle.csvw_datatype_core.specs.Clocks.{clock_form, clock_format_of, clock_instant, clock_parts, clock_pattern, has_pattern, is_clock_pattern};
+ghost use Rattle.csvw_datatype_core.specs.Clocks.{clock_form, clock_format_of, clock_instant, clock_parts, clock_pattern, clock_start};
+ghost use Rattle.csvw_datatype_core.specs.Clocks.{has_pattern, is_clock_pattern};
 ghost use Rattle.csvw_datatype_core.specs.DateTimes.{IsOffset};
 ghost use Rattle.csvw_datatype_core.specs.Fields.{option_view};
 
@@ -190,4 +191,10 @@ pub fn one_clock_text()
 /// A law: a text has a moment on the time line exactly if it writes a time of day.
 pub fn clocks_have_instants()
     ensures { (text : List ℕ) → is_some (clock_instant text) ≡ is_some (clock_form clocks.Any text) }
+{}
+
+/// A law: two texts of times of day have the same one text exactly if they are at the same time, in any formats.
+pub fn clocks_at_one_time()
+    ensures { (f g : ClockFormat) (s t x y : List ℕ) → clock_form f s ≡ Some x → clock_form g t ≡ Some y
+        → (x ≡ y) ↔ (clock_start f s ≡ clock_start g t) }
 {}

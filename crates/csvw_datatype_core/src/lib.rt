@@ -28,7 +28,8 @@
 //! - `clock_text` returns the one text of a time of day that may have parts of a second and a zone (`clock_form`). The law
 //!   `one_clock_text`: that text is its own text. `is_clock` returns whether a text has one.
 //! - `clock_instant` returns the moment of such a time of day on the time line (`clock_instant`). The law `clocks_have_instants`: a
-//!   text has one exactly if it writes a time of day. `compare_digits` returns the order of two fractions (`digits_cmp`).
+//!   text has one exactly if it writes a time of day. The law `clocks_at_one_time`: two texts of times of day have the same one
+//!   text exactly if they are at the same time, in any formats. `compare_digits` returns the order of two fractions (`digits_cmp`).
 //! - `ClockFormat::of` returns the format of a pattern of a time of day (`clock_pattern`), and `push_pattern` writes the pattern.
 //! - `read_zoned_date` returns the date of a text that may have a zone (`zoned_date_value`), and `is_zoned_date` whether there is
 //!   one. The law `zoned_dates`: a day without a zone is in the years 0001 to 9999, and the text of another date is its own text.
@@ -67,8 +68,8 @@ mod xml_name;
 mod zoned_date;
 
 pub use clock::{
-    ClockFormat, ClockPattern, clock_instant, clock_text, clocks_have_instants, is_clock,
-    one_clock_text,
+    ClockFormat, ClockPattern, clock_instant, clock_text, clocks_at_one_time, clocks_have_instants,
+    is_clock, one_clock_text,
 };
 pub use date::{DATE_FORMATS, DateFormat, FieldDigits, Separator, one_date, read_date};
 pub use date_part::{DatePart, is_date_part};
