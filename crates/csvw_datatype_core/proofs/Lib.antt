@@ -42,3 +42,4 @@ mod OffsetLemmas
 mod ClockLemmas
 mod ClockStarts
 mod ZonedDateLemmas
+mod DateStarts

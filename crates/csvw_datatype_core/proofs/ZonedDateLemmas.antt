@@ -90,13 +90,13 @@ pub day_answer : (f : DateFormat) (text : List ℕ) (o : Option ℤ) → MatchOp
     → IfSome o IsDayNumber
 day_answer f text o h = range_by f text o h
 
-abbrev Found : Type 0
+abbrev pub Found : Type 0
 Found = ℤ × Option ℤ
 
-abbrev AreParts : Found → Type 0
+abbrev pub AreParts : Found → Type 0
 AreParts x = IsDayNumber x.0 × IsRange x.1
 
-are_parts : (f : Option ZonedDateFormat) (bs : List ℕ) → IfSome (date_parts f bs) AreParts
+pub are_parts : (f : Option ZonedDateFormat) (bs : List ℕ) → IfSome (date_parts f bs) AreParts
 unfolding date_parts
 are_parts (Some f) bs =
     bind_some (date_value f.date (take (date_len f.date bs) bs)) _ IsDayNumber AreParts (day_range f.date (take (date_len f.date bs) bs))
@@ -126,14 +126,14 @@ parts_by front back day minutes long is_day is_zone =
     let Q : ℕ → Type 0 = λ n. drop n (front ++ back) ≡ back in
     rw (subst P long (take-append_seam front back), subst Q long (drop-append_seam front back), is_day, is_zone) refl
 
-parts_again : (day minutes : ℤ) → IsDayNumber day → IsOffset minutes → date_parts None (date_form day ++ offset_text minutes) ≡ Some (day, Some minutes)
+pub parts_again : (day minutes : ℤ) → IsDayNumber day → IsOffset minutes → date_parts None (date_form day ++ offset_text minutes) ≡ Some (day, Some minutes)
 parts_again day minutes range few =
     let front = date_form day in
     let is = form_is_date day range in
     parts_by front (offset_text minutes) day minutes (date_long front day is) (sym (day_is YearFirst front (Some day) is)) (offset_again minutes few)
 
 -- an offset that is written
-abbrev IsHalf : ℤ → Type 0
+abbrev pub IsHalf : ℤ → Type 0
 IsHalf minutes = (neg_ℤ (pos 720) <ℤ minutes) × (minutes ≤ℤ pos 720)
 
 below_by : (a b : ℤ) (t : Bool) → lt_z a b ≡ t → b ≤ℤ a → t ≡ false
@@ -147,7 +147,7 @@ above_by a b false e h = absurd (omega (arith, ints, e, h))
 stays_in_zone : (day minutes : ℤ) → IsHalf minutes → in_zone day minutes ≡ dated day minutes
 stays_in_zone day minutes h = rw (below_by (pos 720) minutes _ refl h.1, above_by (neg_ℤ (pos 720)) minutes _ refl h.0) refl
 
-in_years : (day : ℤ) → is_day_number day ≡ true → IsDayNumber day
+pub in_years : (day : ℤ) → is_day_number day ≡ true → IsDayNumber day
 in_years day h =
     let parts = and_parts (not (lt_z day (neg_ℤ (pos 719_162)))) (not (lt_z (pos 2_932_896) day)) h in
     (not_below day (neg_ℤ (pos 719_162)) parts.0, not_below (pos 2_932_896) day parts.1)
@@ -169,7 +169,7 @@ dated_by day minutes form true is h e =
     content (Some (values.Written text)) = text
     content _ = []
 
-abbrev shift_by : Bool → Bool → ℤ → ℤ → ℤ × ℤ
+abbrev pub shift_by : Bool → Bool → ℤ → ℤ → ℤ × ℤ
 shift_by a b day minutes =
     if a then (day +ℤ neg_ℤ (pos 1), minutes +ℤ neg_ℤ (pos 1440)) else (if b then (day, minutes) else (day +ℤ pos 1, minutes +ℤ pos 1440))
 

@@ -102,3 +102,7 @@ day_instant day = local_instant (day *ℤ pos 86_400)
 -- the moment at which the date that a text writes begins
 abbrev pub zoned_date_instant : List ℕ → Option Moment
 zoned_date_instant bs = option_map (λ (x : ℤ × Option ℤ). placed_instant (x.0 *ℤ pos 86_400) [] x.1) (date_parts None bs)
+
+-- the moment at which the date that a text writes in a format begins
+abbrev pub date_start : Option ZonedDateFormat → List ℕ → Option Moment
+date_start format bs = option_map (λ (x : ℤ × Option ℤ). placed_instant (x.0 *ℤ pos 86_400) [] x.1) (date_parts format bs)

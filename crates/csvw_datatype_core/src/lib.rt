@@ -33,6 +33,7 @@
 //! - `ClockFormat::of` returns the format of a pattern of a time of day (`clock_pattern`), and `push_pattern` writes the pattern.
 //! - `read_zoned_date` returns the date of a text that may have a zone (`zoned_date_value`), and `is_zoned_date` whether there is
 //!   one. The law `zoned_dates`: a day without a zone is in the years 0001 to 9999, and the text of another date is its own text.
+//!   The law `dates_at_one_time`: two texts have the same date exactly if their dates begin at the same time.
 //! - `day_instant` and `zoned_date_instant` return the moment at which a date begins.
 //! - `ZonedDateFormat::of` returns the format of the pattern of such a date (`zoned_pattern`), and `push_pattern` writes the pattern.
 //! - `is_language`, `is_name` and `is_name_token` return whether a text is of the type `language`, `Name` or `NMTOKEN`.
@@ -92,6 +93,6 @@ pub use time::{TimeFormat, is_time};
 pub use values::values_read;
 pub use xml_name::{is_name, is_name_token};
 pub use zoned_date::{
-    ZonedDate, ZonedDateFormat, day_instant, is_zoned_date, read_zoned_date, zoned_date_instant,
-    zoned_dates,
+    ZonedDate, ZonedDateFormat, dates_at_one_time, day_instant, is_zoned_date, read_zoned_date,
+    zoned_date_instant, zoned_dates,
 };

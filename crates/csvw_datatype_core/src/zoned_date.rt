@@ -1,13 +1,14 @@
 //! How a text writes a date that may have a zone.
-ghost use Rattle.std.specs.Prelude.{◌≡◌, ◌≢◌, ◌++◌, ◌*ℤ◌, pos, IfOk, IfSome, MatchOption, OnOk, List, ℕ, ℤ, Option, Some, None, is_some, string_bytes};
+ghost use Rattle.std.specs.Prelude.{◌≡◌, ◌≢◌, ◌↔◌, ◌++◌, ◌*ℤ◌, pos, IfOk, IfSome, MatchOption, OnOk, List, ℕ, ℤ, Option, Some, None, is_some, string_bytes};
 ghost use Rattle.csvw_datatype_core.specs.declared.date.DateFormat.TheVariants.{YearFirst};
+ghost use Rattle.csvw_datatype_core.specs.declared.zoned_date.ZonedDate.{ZonedDate};
 ghost use Rattle.csvw_datatype_core.specs.declared.zoned_date.ZonedDate.TheVariants as values;
 ghost use Rattle.csvw_datatype_core.specs.declared.zoned_date.ZonedDateFormat.{ZonedDateFormat as Format};
 ghost use Rattle.csvw_datatype_core.specs.DateTimes.{IsOffset};
 ghost use Rattle.csvw_datatype_core.specs.Fields.{option_view};
 ghost use Rattle.csvw_datatype_core.specs.LexicalDates.{IsDayNumber};
 ghost use Rattle.csvw_datatype_core.specs.Values.{date_value};
-ghost use Rattle.csvw_datatype_core.specs.ZonedDates.{date_len, date_parts, dated, day_instant, fields_len, in_zone, is_day_number, numbers_len, placed_day, shifted, zoned_date_instant, zoned_date_value};
+ghost use Rattle.csvw_datatype_core.specs.ZonedDates.{date_len, date_parts, date_start, dated, day_instant, fields_len, in_zone, is_day_number, numbers_len, placed_day, shifted, zoned_date_instant, zoned_date_value};
 
 use crate::date::{DateFormat, FieldDigits, read_day};
 use crate::date_part::digit_count;
@@ -272,4 +273,10 @@ pub fn zoned_dates()
     ensures in_range { (format : Option Format) (text : List ℕ) (day : ℤ) → zoned_date_value format text ≡ Some (values.Day day) → IsDayNumber day }
     ensures written { (format : Option Format) (text form : List ℕ) → zoned_date_value format text ≡ Some (values.Written form)
         → zoned_date_value None form ≡ Some (values.Written form) }
+{}
+
+/// A law: two texts of dates have the same value exactly if their dates begin at the same time, in any formats.
+pub fn dates_at_one_time()
+    ensures { (f g : Option Format) (s t : List ℕ) (x y : ZonedDate) → zoned_date_value f s ≡ Some x → zoned_date_value g t ≡ Some y
+        → (x ≡ y) ↔ (date_start f s ≡ date_start g t) }
 {}
