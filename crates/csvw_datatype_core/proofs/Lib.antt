@@ -35,6 +35,7 @@ mod MomentLemmas
 mod DateTimeLemmas
 mod PartFieldLemmas
 mod StampLemmas
+mod WrittenMoments
 mod StampFormatLemmas
 mod ZoneLemmas
 mod ClockFormatLemmas

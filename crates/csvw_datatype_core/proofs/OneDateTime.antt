@@ -116,7 +116,7 @@ abbrev pub ending : Bool → List ℕ
 ending true = 90 ∷ []
 ending false = []
 
-abbrev minutes_of : Bool → Option ℤ
+abbrev pub minutes_of : Bool → Option ℤ
 minutes_of true = Some (pos 0)
 minutes_of false = None
 
@@ -157,7 +157,7 @@ fraction_again b ds h = fraction_before (ending b) ds (is_rest b) h
 
 -- ---- the parts of the text
 
-parts_again : (b : Bool) (moment : ℤ) (ds : List ℕ) → IsMomentNumber moment → AreDigits ds → trimmed ds ≡ ds
+pub parts_again : (b : Bool) (moment : ℤ) (ds : List ℕ) → IsMomentNumber moment → AreDigits ds → trimmed ds ≡ ds
     → parts_of (moment_form moment ++ (fraction_text ds ++ ending b)) ≡ Some (moment, ds, minutes_of b)
 parts_again b moment ds range digits kept =
     let front = moment_form moment in
@@ -211,7 +211,7 @@ local_again moment (d ∷ ds) form range kept e =
     value_again zones.Optional false moment (d ∷ ds) form range kept.0 kept.1 (same_Some (written moment (d ∷ ds) []) (values.Written form) e) refl
 
 -- a second that is in the years 0001 to 9999
-second_in_range : (moment : ℤ) → is_moment_number moment ≡ true → IsMomentNumber moment
+pub second_in_range : (moment : ℤ) → is_moment_number moment ≡ true → IsMomentNumber moment
 second_in_range moment h =
     let parts = and_parts (not (lt_z moment (neg_ℤ (pos 62_135_596_800)))) (not (lt_z (pos 253_402_300_799) moment)) h in
     (not_below moment (neg_ℤ (pos 62_135_596_800)) parts.0, not_below (pos 253_402_300_799) moment parts.1)

@@ -149,10 +149,10 @@ pub digits_within : (most : ℕ) (bs : List ℕ) → IfSome (fraction_within mos
 digits_within most bs =
     bind_some (fraction_at bs) (within most) SomeDigits SomeDigits (fraction_digits bs) (λ x h. within_digits (nat_le (length x.0) most) x h)
 
-abbrev AreParts : ℤ × List ℕ × Option ℤ → Type 0
+abbrev pub AreParts : ℤ × List ℕ × Option ℤ → Type 0
 AreParts x = IsMomentNumber x.0 × IsKept x.1
 
-are_parts : (f : StampFormat) (bs : List ℕ) → IfSome (stamp_parts f bs) AreParts
+pub are_parts : (f : StampFormat) (bs : List ℕ) → IfSome (stamp_parts f bs) AreParts
 unfolding stamp_parts
 are_parts f bs =
     bind_some (moment_at f.moment bs) _ (λ x. IsMomentNumber x.0) AreParts (range_at f.moment (moment_len f.moment bs) bs)

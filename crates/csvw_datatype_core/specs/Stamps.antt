@@ -15,8 +15,9 @@ use Rattle.csvw_datatype_core.specs.declared.stamp_format.ZoneGap.TheVariants as
 use Rattle.csvw_datatype_core.specs.declared.stamp_format.ZoneFormat.{ZoneFormat}
 use Rattle.csvw_datatype_core.specs.declared.stamp_format.StampFormat.{StampFormat}
 use Rattle.csvw_datatype_core.specs.DateParts.{is_empty}
-use Rattle.csvw_datatype_core.specs.DateTimes.{at_utc, east, west, fraction_at, minutes_of, placed_by, trimmed}
+use Rattle.csvw_datatype_core.specs.DateTimes.{at_utc, east, west, fraction_at, minutes_of, parts_of, placed_by, trimmed}
 use Rattle.csvw_datatype_core.specs.Fields.{◌>>=◌, after_separator, two_at}
+use Rattle.csvw_datatype_core.specs.Instants.{Moment, placed_instant}
 use Rattle.csvw_datatype_core.specs.PartFields.{no_zone}
 use Rattle.csvw_datatype_core.specs.Times.{last_two}
 use Rattle.csvw_datatype_core.specs.Values.{at_space, joined_value, moment_value}
@@ -113,3 +114,18 @@ stamp_parts format bs = do
 -- the value that a text writes, as the same text without a format would have it
 abbrev pub stamp_value : StampFormat → Zone → List ℕ → Option DateTime
 stamp_value format zone bs = option_and_then (placed_by zone) (stamp_parts format bs)
+
+-- ---- texts in a format or without one
+
+-- the second, the digits of its parts, and the zone that a text writes
+abbrev pub written_parts : Option StampFormat → List ℕ → Option (ℤ × List ℕ × Option ℤ)
+written_parts None bs = parts_of bs
+written_parts (Some format) bs = stamp_parts format bs
+
+-- the value that it writes
+abbrev pub written_value : Option StampFormat → Zone → List ℕ → Option DateTime
+written_value format zone bs = option_and_then (placed_by zone) (written_parts format bs)
+
+-- the moment on the time line that it writes
+abbrev pub written_instant : Option StampFormat → List ℕ → Option Moment
+written_instant format bs = option_map (λ (x : ℤ × List ℕ × Option ℤ). placed_instant x.0 x.1 x.2) (written_parts format bs)

@@ -23,7 +23,8 @@
 //!   stand to each other, if they have an order (`instant_cmp`).
 //! - `read_stamp` returns the moment of a text in a format with parts of a second or a zone (`stamp_value`). The law `stamps`:
 //!   a whole second without a zone is in the years 0001 to 9999, and no `dateTimeStamp`. The text of another moment is its own
-//!   text without a format.
+//!   text without a format. The law `moments_at_one_time`: two texts of moments, in any formats, have the same value exactly if
+//!   the moments are the same on the time line.
 //! - `StampFormat::of` returns the format of such a pattern (`stamp_pattern`), and `push_pattern` writes the pattern.
 //! - `clock_text` returns the one text of a time of day that may have parts of a second and a zone (`clock_form`). The law
 //!   `one_clock_text`: that text is its own text. `is_clock` returns whether a text has one.
@@ -87,7 +88,7 @@ pub use number::{Mark, NumberFault, NumberRules, one_number, read_number};
 pub use number_pattern::{ExponentPattern, GroupSizes, NumberPattern, PatternFault};
 pub use part_form::{date_part_text, days_at_one_time, one_date_part_text, start_of_day};
 pub use pattern::{date_format_of, moment_format_of, time_format_of};
-pub use stamp::{read_stamp, stamps};
+pub use stamp::{moments_at_one_time, read_stamp, stamps};
 pub use stamp_format::{OffsetForm, StampFormat, UtcMark, ZoneFormat, ZoneGap};
 pub use time::{TimeFormat, is_time};
 pub use values::values_read;

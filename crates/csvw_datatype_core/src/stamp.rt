@@ -1,5 +1,5 @@
 //! How a text writes a moment in a format with parts of a second or a zone.
-ghost use Rattle.std.specs.Prelude.{◌≡◌, ◌≤◌, IfOk, IfSome, List, ℕ, ℤ, Some};
+ghost use Rattle.std.specs.Prelude.{◌≡◌, ◌↔◌, ◌≤◌, IfOk, IfSome, List, ℕ, ℤ, Option, Some, None};
 ghost use Rattle.std.specs.Str.{IsAscii};
 ghost use Rattle.csvw_datatype_core.specs.declared.date_time.DateTime.TheVariants as values;
 ghost use Rattle.csvw_datatype_core.specs.declared.date_time.Zone.TheVariants as zones;
@@ -8,6 +8,7 @@ ghost use Rattle.csvw_datatype_core.specs.DateTimes.{IsOffset, date_time_value, 
 ghost use Rattle.csvw_datatype_core.specs.Fields.{option_view};
 ghost use Rattle.csvw_datatype_core.specs.LexicalDates.{IsMomentNumber};
 ghost use Rattle.csvw_datatype_core.specs.Stamps.{time_len, joined_in, moment_at, fraction_within, offset_minutes, offset_digits, utc_at, offset_at, after_gap, ending_at, stamp_parts, stamp_value};
+ghost use Rattle.csvw_datatype_core.specs.Stamps.{written_instant, written_value};
 ghost use Rattle.csvw_datatype_core.specs.Values.{joined_value, time_value};
 
 use crate::date::{DateFormat, past, two};
@@ -213,4 +214,12 @@ pub fn stamps()
     ensures zone { (format : StampFormat) (text : List ℕ) (moment : ℤ) → stamp_value format zones.Required text ≡ Some (values.Second moment) → ⊥ }
     ensures written { (format : StampFormat) (zone : Zone) (text form : List ℕ) → stamp_value format zone text ≡ Some (values.Written form)
         → date_time_value zone form ≡ Some (values.Written form) }
+{}
+
+/// A law: two texts of moments have the same value exactly if the moments are the same on the time line, in any formats.
+pub fn moments_at_one_time()
+    ensures without { (zone : Zone) (text : List ℕ) → written_value None zone text ≡ date_time_value zone text }
+    ensures within { (format : StampFormat) (zone : Zone) (text : List ℕ) → written_value (Some format) zone text ≡ stamp_value format zone text }
+    ensures same { (f g : Option StampFormat) (v w : Zone) (s t : List ℕ) (x y : DateTime) → written_value f v s ≡ Some x → written_value g w t ≡ Some y
+        → (x ≡ y) ↔ (written_instant f s ≡ written_instant g t) }
 {}
