@@ -1,6 +1,6 @@
 -- The text of a time of day is its own text. The check doesn't find it by itself: it takes the hours and the zone of the text apart.
-use Rattle.std.proofs.Common.{◌≡◌, ℕ, ◌+◌, ◌-◌, ◌*◌, ◌/◌, ◌%◌, ◌<◌, ◌≤◌, ◌==◌, Bool, true, false, ◌&&◌, ◌||◌, if◌then◌else◌, Option, Some, None, IfSome}
-use Rattle.std.proofs.Common.{List, [], ◌∷◌, ◌++◌, append-nil, take, drop, refl, sym, ap, ◌∙◌, arith, ℤ, pos, neg_ℤ, ◌+ℤ◌, ◌*ℤ◌, ◌≤ℤ◌, unsigned_abs}
+use Rattle.std.proofs.Common.{◌≡◌, ℕ, ◌+◌, ◌-◌, ◌*◌, ◌/◌, ◌%◌, ◌<◌, ◌≤◌, Bool, true, false, if◌then◌else◌, Option, Some, None, IfSome}
+use Rattle.std.proofs.Common.{List, [], ◌++◌, append-nil, take, drop, refl, sym, ap, ◌∙◌, arith, ℤ, pos, neg_ℤ, ◌+ℤ◌, ◌*ℤ◌, unsigned_abs}
 use Rattle.std.specs.Prelude.{nat_lt, is_some, option_map}
 use Rattle.std.proofs.lemmas.Bool.Decides.{nat_tests}
 use Rattle.std.proofs.lemmas.Int.{ints}
@@ -9,12 +9,11 @@ use Rattle.csvw_datatype_core.specs.declared.clock.ClockFormat.{ClockFormat}
 use Rattle.csvw_datatype_core.specs.declared.clock.ClockFormat.TheVariants as clocks
 use Rattle.csvw_datatype_core.specs.declared.time.TimeFormat.TheVariants as times
 use Rattle.csvw_datatype_core.specs.Clocks.{clock_form, clock_in, clock_instant, clock_parts, clock_text, zoned_hour, zoned_minutes, zoned_second, zoned_text}
-use Rattle.csvw_datatype_core.specs.DateTimes.{IsOffset, fraction_at, fraction_text, trimmed, zone_at}
+use Rattle.csvw_datatype_core.specs.DateTimes.{IsOffset, fraction_at, fraction_text, zone_at}
 use Rattle.csvw_datatype_core.specs.Fields.{◌>>=◌}
-use Rattle.csvw_datatype_core.specs.Instants.{Moment, placed_instant}
+use Rattle.csvw_datatype_core.specs.Instants.{placed_instant}
 use Rattle.csvw_datatype_core.specs.Offsets.{offset_text}
 use Rattle.csvw_datatype_core.specs.Stamps.{ending_at, fraction_within, time_len}
-use Rattle.csvw_datatype_core.specs.Times.{clock}
 use Rattle.csvw_datatype_core.specs.Values.{time_value}
 use Rattle.csvw_datatype_core.proofs.OffsetLemmas.{offset_again, offset_is_rest}
 use Rattle.csvw_datatype_core.proofs.OneDateTime.{IsKept, IsRest, are_kept, fraction_before, fraction_digits, kept_again}

@@ -1,9 +1,9 @@
 -- The text of an offset is read again. The check doesn't find it by itself: it takes the hours and the minutes apart.
-use Rattle.std.proofs.Common.{◌≡◌, ℕ, suc, ◌+◌, ◌*◌, ◌/◌, ◌%◌, ◌<◌, ◌≤◌, ◌==◌, Bool, true, false, ◌&&◌, ◌||◌, if◌then◌else◌, Some, List, [], ◌∷◌, ◌++◌}
-use Rattle.std.proofs.Common.{refl, sym, ap, ◌∙◌, arith, ℤ, pos, negsuc, neg_ℤ, unsigned_abs}
+use Rattle.std.proofs.Common.{◌≡◌, ℕ, suc, ◌+◌, ◌*◌, ◌/◌, ◌%◌, ◌≤◌, Bool, true, false, if◌then◌else◌, Some, List, [], ◌∷◌}
+use Rattle.std.proofs.Common.{refl, sym, ap, arith, ℤ, pos, negsuc, unsigned_abs}
 use Rattle.std.specs.Ordering.{int_eq}
 use lib.Signed.{lt_z}
-use Rattle.std.specs.Prelude.{nat_lt, codes}
+use Rattle.std.specs.Prelude.{codes}
 use Rattle.std.proofs.lemmas.Bool.Decides.{nat_tests, Decides-int_eq}
 use Rattle.std.proofs.lemmas.Int.{ints}
 use Rattle.csvw_datatype_core.specs.DateParts.{is_offset, offset_fields}

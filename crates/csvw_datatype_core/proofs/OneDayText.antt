@@ -1,6 +1,6 @@
 -- The one text of a day is its own text, and its numbers have two digits. The check doesn't find it by itself: it takes the days and the zones apart.
-use Rattle.std.proofs.Common.{◌≡◌, ℕ, suc, ◌+◌, ◌-◌, ◌*◌, ◌/◌, ◌%◌, ◌<◌, ◌≤◌, ◌==◌, ◌⊎◌, inl, inr, Bool, true, false, ◌&&◌, ◌||◌, Option, Some, None}
-use Rattle.std.proofs.Common.{if◌then◌else◌, List, [], ◌∷◌, ◌++◌, refl, sym, ap, subst, ◌∙◌, arith, ℤ, pos, negsuc, neg_ℤ, ◌+ℤ◌, ◌≤ℤ◌, ◌<ℤ◌, IfSome}
+use Rattle.std.proofs.Common.{◌≡◌, ℕ, ◌+◌, ◌-◌, ◌<◌, ◌≤◌, ◌==◌, ◌⊎◌, inl, inr, Bool, true, false, ◌&&◌, ◌||◌, Option, Some, None}
+use Rattle.std.proofs.Common.{if◌then◌else◌, List, [], ◌∷◌, ◌++◌, refl, sym, ap, subst, ◌∙◌, arith, ℤ, pos, neg_ℤ, ◌+ℤ◌, ◌≤ℤ◌, ◌<ℤ◌, IfSome}
 use Rattle.std.specs.Prelude.{nat_lt, nat_le}
 use Rattle.std.specs.Option.{option_map}
 use Rattle.std.proofs.lemmas.Bool.{cond-true, and_parts}
@@ -10,7 +10,7 @@ use Rattle.std.proofs.lemmas.Option.{cond_some, same_Some}
 use lib.Signed.{lt_z}
 use Rattle.csvw_datatype_core.specs.declared.date_part.DatePart.{DatePart}
 use Rattle.csvw_datatype_core.specs.declared.date_part.DatePart.TheVariants as parts
-use Rattle.csvw_datatype_core.specs.Fields.{◌>>=◌, after_separator, two_at, at_end}
+use Rattle.csvw_datatype_core.specs.Fields.{◌>>=◌, after_separator, two_at}
 use Rattle.csvw_datatype_core.specs.DateParts.{up_to, number_at, days_of}
 use Rattle.csvw_datatype_core.specs.DateTimes.{IsOffset, zone_at}
 use Rattle.csvw_datatype_core.specs.LexicalDates.{two_digits}

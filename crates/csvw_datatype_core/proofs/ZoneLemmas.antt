@@ -1,5 +1,5 @@
 -- A second of a day and an offset are small. The check doesn't find it by itself: it takes each case of a reader.
-use Rattle.std.proofs.Common.{◌≡◌, ℕ, ◌+◌, ◌*◌, ◌<◌, ◌≤◌, ◌==◌, Bool, true, false, ◌&&◌, ◌||◌, cond, Option, Some, None, IfSome, MatchOption, List, [], ◌∷◌, refl, arith, ℤ, pos, neg_ℤ}
+use Rattle.std.proofs.Common.{◌≡◌, ℕ, ◌+◌, ◌*◌, ◌<◌, ◌≤◌, ◌==◌, Bool, true, false, ◌&&◌, cond, Option, Some, None, IfSome, MatchOption, List, [], ◌∷◌, refl, arith, ℤ, pos}
 use Rattle.std.specs.Prelude.{nat_lt}
 use Rattle.std.proofs.lemmas.Bool.{and_parts}
 use Rattle.std.proofs.lemmas.Bool.Decides.{nat_tests}
@@ -10,8 +10,6 @@ use Rattle.csvw_datatype_core.specs.declared.stamp_format.ZoneFormat.{ZoneFormat
 use Rattle.csvw_datatype_core.specs.declared.time.TimeFormat.{TimeFormat}
 use Rattle.csvw_datatype_core.specs.DateParts.{is_empty, is_offset, offset_fields}
 use Rattle.csvw_datatype_core.specs.DateTimes.{IsOffset, at_utc, east, minutes_of, west, zone_at}
-use Rattle.csvw_datatype_core.specs.Fields.{◌>>=◌}
-use Rattle.csvw_datatype_core.specs.PartFields.{no_zone}
 use Rattle.csvw_datatype_core.specs.Stamps.{after_gap, ending_at, offset_at, offset_digits, utc_at}
 use Rattle.csvw_datatype_core.specs.TimeFields.{IsTimeOfDay}
 use Rattle.csvw_datatype_core.specs.Times.{clock_fields}

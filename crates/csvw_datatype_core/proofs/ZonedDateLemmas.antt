@@ -1,7 +1,7 @@
 -- A pattern of a date has one reading, and the text of a date with a zone is its own text. The search doesn't take a text or a pattern apart.
-use Rattle.std.proofs.Common.{◌≡◌, ◌≢◌, ℕ, Bool, true, false, ◌&&◌, not, if◌then◌else◌, Option, Some, None, MatchOption, IfSome, option_and_then, is_some}
-use Rattle.std.proofs.Common.{List, [], ◌∷◌, ◌++◌, length, take, drop, refl, sym, ap, subst, ◌∙◌, arith, ℤ, pos, neg_ℤ, ◌+ℤ◌, ◌*ℤ◌, ◌≤ℤ◌, ◌<ℤ◌}
-use Rattle.std.specs.Prelude.{codes, option_map}
+use Rattle.std.proofs.Common.{◌≡◌, ◌≢◌, ℕ, Bool, true, false, not, if◌then◌else◌, Option, Some, None, MatchOption, IfSome, option_and_then}
+use Rattle.std.proofs.Common.{List, [], ◌∷◌, ◌++◌, length, take, drop, refl, sym, ap, subst, ◌∙◌, arith, ℤ, pos, neg_ℤ, ◌+ℤ◌, ◌≤ℤ◌, ◌<ℤ◌}
+use Rattle.std.specs.Prelude.{codes}
 use Rattle.std.proofs.Math.Seq.{take-append_seam, drop-append_seam}
 use Rattle.std.proofs.lemmas.Bool.{and_parts}
 use Rattle.std.proofs.lemmas.Bool.Decides.{nat_tests}
@@ -10,7 +10,6 @@ use Rattle.std.proofs.lemmas.Option.{same_Some}
 use lib.Signed.{lt_z}
 use Rattle.csvw_datatype_core.specs.declared.date.DateFormat.{DateFormat}
 use Rattle.csvw_datatype_core.specs.declared.date.DateFormat.TheVariants.{YearFirst, Compact, DayFirst, MonthFirst}
-use Rattle.csvw_datatype_core.specs.declared.date.FieldDigits.{FieldDigits}
 use Rattle.csvw_datatype_core.specs.declared.date.Separator.{Separator}
 use Rattle.csvw_datatype_core.specs.declared.stamp_format.ZoneFormat.{ZoneFormat}
 use Rattle.csvw_datatype_core.specs.declared.zoned_date.ZonedDate.{ZonedDate}
@@ -19,7 +18,6 @@ use Rattle.csvw_datatype_core.specs.declared.zoned_date.ZonedDateFormat.{ZonedDa
 use Rattle.csvw_datatype_core.specs.Dates.{ReadsDate, separator_byte}
 use Rattle.csvw_datatype_core.specs.DatePatterns.{date_pattern, day_letters, month_letters}
 use Rattle.csvw_datatype_core.specs.DateTimes.{IsOffset, zone_at}
-use Rattle.csvw_datatype_core.specs.Fields.{◌>>=◌}
 use Rattle.csvw_datatype_core.specs.Forms.{date_form}
 use Rattle.csvw_datatype_core.specs.LexicalDates.{IsDayNumber}
 use Rattle.csvw_datatype_core.specs.Offsets.{offset_text}

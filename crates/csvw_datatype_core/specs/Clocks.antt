@@ -1,7 +1,7 @@
 -- Times of day with parts of a second and a zone: the patterns, what a text writes, and the one text of each value (XML Schema 1.1 Part 2, section
 -- 3.3.8 and appendix E.3; Model for Tabular Data, section 6.4.4).
 use Rattle.std.specs.Prelude.{ℕ, ◌-◌, ◌*◌, ◌/◌, ◌%◌, ◌==◌, ◌&&◌, nat_lt, nat_le, Bool, true, false, Option, Some, None, option_map, if◌then◌else◌}
-use Rattle.std.specs.Prelude.{codes, List, [], ◌++◌, drop, take, ℤ, pos, neg_ℤ, ◌+ℤ◌, ◌*ℤ◌, unsigned_abs}
+use Rattle.std.specs.Prelude.{List, [], ◌++◌, drop, take, ℤ, pos, neg_ℤ, ◌+ℤ◌, ◌*ℤ◌, unsigned_abs}
 use Rattle.csvw_datatype_core.specs.declared.clock.ClockFormat.{ClockFormat}
 use Rattle.csvw_datatype_core.specs.declared.clock.ClockFormat.TheVariants as clocks
 use Rattle.csvw_datatype_core.specs.declared.clock.ClockPattern.{ClockPattern}

@@ -1,6 +1,6 @@
 -- Times of day: the texts that write one, and their fields (Model for Tabular Data, section 6.4.4; XML Schema 1.1 Part 2,
 -- section 3.3.8).
-use Rattle.std.specs.Prelude.{ℕ, Option, Some, None, codes, List, ◌∷◌, ◌++◌}
+use Rattle.std.specs.Prelude.{ℕ, Option, Some, codes, List, ◌∷◌, ◌++◌}
 use Rattle.csvw_datatype_core.specs.declared.time.TimeFormat.{TimeFormat}
 use Rattle.csvw_datatype_core.specs.declared.time.TimeFormat.TheVariants as formats
 use Rattle.csvw_datatype_core.specs.Fields.{◌>>=◌, after_separator, two_at, at_end}
