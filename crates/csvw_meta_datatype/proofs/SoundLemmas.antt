@@ -11,8 +11,6 @@ use Rattle.csvw_datatype.specs.declared.simple.TextType.TheVariants.{Any, Normal
 use Rattle.csvw_datatype.specs.declared.simple.TextType.TheVariants.{Time, Date, DateTime, Part, Binary, Duration}
 use Rattle.csvw_datatype.specs.Formats.{IsFormatOf}
 use Rattle.csvw_datatype.specs.Sound.{AreBoundsOf, IsSound, lengths_apply}
-use Rattle.csvw_datatype.specs.declared.format.Format.{Format}
-use Rattle.csvw_datatype.specs.declared.datatype.Facets.{Facets}
 use Rattle.csvw_datatype.specs.Breaks.{no_facets}
 use Rattle.csvw_meta_core.specs.declared.fault.MetaFault.{MetaFault}
 use Rattle.csvw_meta_core.specs.Pointer.{below}

@@ -1,5 +1,5 @@
 -- The datatype that a value of a document describes, and its faults (Metadata Vocabulary for Tabular Data, section 5.11).
-use Rattle.std.specs.Prelude.{ℕ, List, [], ◌++◌, Option, None, if◌then◌else◌, codes}
+use Rattle.std.specs.Prelude.{ℕ, List, [], ◌++◌, Option, None, codes}
 use Rattle.serde_json.specs.Data.{Data, null, boolean, number, string, array, object}
 use Rattle.url.specs.Parts.{Parts}
 use Rattle.csvw_fault.specs.declared.fault.Place.{Place}
