@@ -5,9 +5,9 @@ use Rattle.std.specs.Prelude.{slice_get, nat_lt, if◌then◌else◌}
 use Rattle.std.proofs.lemmas.Bool.Decides.{nat_tests}
 use Rattle.csvw_part_plan.specs.declared.piece.Piece.{Piece}
 use Rattle.csvw_part_plan.specs.declared.fault.LineFault.{LineFault}
-use Rattle.csvw_part_plan.specs.declared.fault.LineFault.TheVariants.{Part, Table, FirstByte, LastByte, Rows, HeaderBytes}
+use Rattle.csvw_part_plan.specs.declared.fault.LineFault.TheVariants.{LastByte}
 use Rattle.csvw_part_plan.specs.Order.{begin_fault, end_fault, fault_after, fault_by, first_fault, going_fault, next_fault, table_fault}
-use Rattle.csvw_part_plan.specs.Plans.{AreChained, Begins, BeginsNext, EndFits, Follows, GoesOn, IsFirst, TileFront, last_piece}
+use Rattle.csvw_part_plan.specs.Plans.{AreChained, Begins, EndFits, Follows, IsFirst, TileFront, last_piece}
 
 -- a chain of tests that found no fault: the first test failed, and so did the others
 passed : (b : Bool) (fault : LineFault) (others : Option LineFault) → (if b then Some fault else others) ≡ None → (b ≡ false) × (others ≡ None)

@@ -9,8 +9,8 @@ use Rattle.csvw_part_plan.specs.declared.piece.Piece.{Piece}
 use Rattle.csvw_part_plan.specs.declared.fault.LineFault.{LineFault}
 use Rattle.csvw_part_plan.specs.declared.fault.LineFault.TheVariants.{LastByte}
 use Rattle.csvw_part_plan.specs.Order.{begin_fault, end_fault, fault_after, fault_by, first_fault, going_fault, next_fault, table_fault}
-use Rattle.csvw_part_plan.specs.Plans.{AreChained, Begins, BeginsNext, EndFits, Fits, Follows, GoesOn, IsFirst, IsPlan, TileFront, cell, heading, line}
-use Rattle.csvw_part_plan.specs.Refusals.{HasNoPiece, HasWrongPiece, IsFaultAt, IsWrongThere, NoPlan, Reaches}
+use Rattle.csvw_part_plan.specs.Plans.{AreChained, Begins, BeginsNext, EndFits, Fits, Follows, GoesOn, IsFirst, TileFront, heading, line}
+use Rattle.csvw_part_plan.specs.Refusals.{IsWrongThere, NoPlan}
 use Rattle.csvw_part_plan.proofs.Cells.{cell_unique, tail_of}
 use Rattle.csvw_part_plan.proofs.Chains.{last, last_piece-cons}
 use Rattle.csvw_part_plan.proofs.Lines.{line-cells, line_some}

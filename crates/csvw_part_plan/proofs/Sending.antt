@@ -1,6 +1,6 @@
 -- What follows from the parts of a plan that were sent.
-use Rattle.std.proofs.Common.{◌≡◌, ◌∙◌, ◌+◌, ◌<◌, ℕ, List, [], ◌∷◌, ◌++◌, take, drop, get_or, length, flat_map, sym, ap, subst, append_assoc, append-nil, take-append-drop}
-use Rattle.std.proofs.Common.{Option, Result, Ok, Err, OnErr, OnOk}
+use Rattle.std.proofs.Common.{◌≡◌, ◌∙◌, ◌+◌, ◌<◌, ℕ, List, [], ◌∷◌, ◌++◌, take, drop, get_or, length, flat_map, sym, ap, append_assoc, append-nil, take-append-drop}
+use Rattle.std.proofs.Common.{Option}
 use Rattle.std.proofs.KnownBytes.{Appends-trans}
 use Rattle.std.specs.Io.KnownBytes.{Appends}
 use Rattle.std.proofs.lemmas.List.{at_drop_more, take_more}

@@ -1,5 +1,5 @@
 -- The first rule that a piece breaks after those before it in a plan: `fault_after`.
-use Rattle.std.specs.Prelude.{◌≡◌, ℕ, ◌+◌, ◌^◌, ◌==◌, ◌&&◌, ◌||◌, not, nat_lt, if◌then◌else◌, List, [], ◌∷◌, ◌++◌, Option, Some, None}
+use Rattle.std.specs.Prelude.{◌≡◌, ◌+◌, ◌^◌, ◌==◌, ◌&&◌, ◌||◌, not, nat_lt, if◌then◌else◌, List, [], ◌∷◌, ◌++◌, Option, Some, None}
 use Rattle.csvw_part_plan.specs.declared.piece.Piece.{Piece}
 use Rattle.csvw_part_plan.specs.declared.fault.LineFault.{LineFault}
 use Rattle.csvw_part_plan.specs.declared.fault.LineFault.TheVariants.{Part, Table, FirstByte, LastByte, Rows, HeaderBytes}

@@ -1,16 +1,15 @@
 -- The line of a fault is the names of its kind and its code and the numbers of its place, with the bytes that end them.
-use Rattle.std.proofs.Common.{◌≡◌, ℕ, ◌<◌, ◌^◌, List, [], ◌∷◌, ◌++◌, length, flat_map, refl, sym, ap, ◌∙◌, append_assoc, append-nil, length-append, arith, lit<}
-use Rattle.std.specs.Prelude.{◌+◌, decimal}
+use Rattle.std.proofs.Common.{◌≡◌, ℕ, ◌<◌, ◌^◌, List, [], ◌∷◌, ◌++◌, length, flat_map, sym, ap, ◌∙◌, append_assoc, append-nil, length-append, arith}
+use Rattle.std.specs.Prelude.{◌+◌}
 use Rattle.std.proofs.lemmas.List.Concat.{flat_map-append}
 use Rattle.csvw_fault.specs.Code.{name_of}
 use Rattle.csvw_fault.specs.declared.fault.Code.{Code}
 use Rattle.csvw_fault.specs.declared.fault.Fault.{Fault}
 use Rattle.csvw_fault.specs.declared.fault.Kind.{Kind}
-use Rattle.csvw_fault.specs.declared.fault.Place.{Place}
 use Rattle.csvw_part_plan.specs.Plans.{cell}
-use Rattle.csvw_part_plan.proofs.Cells.{cell_unique, first_unique, tail_of}
+use Rattle.csvw_part_plan.proofs.Cells.{cell_unique, first_unique}
 use Rattle.csvw_report.specs.Report.{heading, kind_name, line}
-use Rattle.csvw_reports.specs.Reading.{Fits, FitsPlace, place_cells}
+use Rattle.csvw_reports.specs.Reading.{place_cells}
 use Rattle.csvw_reports.proofs.Names.{code_without_comma, kind_without_comma}
 
 pub line-cells : (f : Fault) (rest : List ℕ) → line f ++ rest ≡ kind_name f.kind ++ 44 ∷ (name_of f.code ++ 44 ∷ place_cells f.place rest)

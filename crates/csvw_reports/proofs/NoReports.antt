@@ -1,15 +1,11 @@
 -- A text that is refused is no report: its lines can be read in one way.
-use Rattle.std.proofs.Common.{◌≡◌, ◌≢◌, ◌⊎◌, ℕ, ◌+◌, ◌<◌, ◌^◌, List, [], ◌∷◌, ◌++◌, length, flat_map, refl, sym, ap, ap₂, ◌∙◌, arith, inl, inr, lit<, append_assoc, length-append}
+use Rattle.std.proofs.Common.{◌≡◌, ◌≢◌, ℕ, ◌<◌, ◌^◌, List, [], ◌∷◌, ◌++◌, length, flat_map, sym, ap, ◌∙◌, arith, inl, inr, lit<, append_assoc, length-append}
 use Rattle.std.specs.List.{All}
 use Rattle.std.proofs.lemmas.List.Elements.{All-head, All-tail}
-use Rattle.csvw_fault.specs.Code.{name_of}
 use Rattle.csvw_fault.specs.declared.fault.Fault.{Fault}
-use Rattle.csvw_fault.specs.declared.fault.Kind.{Kind}
-use Rattle.csvw_fault.specs.declared.fault.Place.{Place}
 use Rattle.csvw_part_plan.proofs.Cells.{cell_unique, tail_of}
 use Rattle.csvw_report.specs.Report.{heading, line}
-use Rattle.csvw_reports.specs.Reading.{Fits, FitsPlace, place_cells}
-use Rattle.csvw_reports.specs.Refusals.{IsWrongAfter}
+use Rattle.csvw_reports.specs.Reading.{Fits}
 use Rattle.csvw_reports.specs.ReportLaws.{NoReport}
 use Rattle.csvw_reports.proofs.Lines.{after_code, after_kind, line-cells, line_some}
 

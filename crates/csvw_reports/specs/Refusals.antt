@@ -2,7 +2,7 @@
 use Rattle.std.specs.Prelude.{◌≡◌, ◌≢◌, ◌⊎◌, ℕ, ◌+◌, List, [], ◌++◌, length, flat_map}
 use Rattle.std.specs.List.{All}
 use Rattle.csvw_fault.specs.declared.fault.Fault.{Fault}
-use Rattle.csvw_report.specs.Report.{heading, line, report}
+use Rattle.csvw_report.specs.Report.{heading, line}
 use Rattle.csvw_reports.specs.Reading.{Fits}
 use Rattle.csvw_reports.specs.declared.fault.ReportFault.{ReportFault}
 use Rattle.csvw_reports.specs.declared.fault.ReportFault.TheVariants.{Memory, Line}

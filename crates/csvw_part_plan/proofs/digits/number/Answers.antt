@@ -1,6 +1,5 @@
 -- The digits before the first end are those of the number, if there is one: so they are text, can be parsed, and are written again.
-use Rattle.std.proofs.Common.{◌≡◌, ◌^◌, ◌<◌, Ok, sym, ◌∙◌, subst, true, false, ap, not}
-use Rattle.std.specs.Prelude.{decimal}
+use Rattle.std.proofs.Common.{◌≡◌, sym, ◌∙◌, subst, true, false, ap, not}
 use Rattle.std.specs.Str.{IsUtf8}
 use Rattle.std.proofs.lemmas.Fmt.{IsAscii-decimal, parse-decimal}
 use Rattle.std.proofs.lemmas.Slice.Eq.{bytes_eq-Decides}

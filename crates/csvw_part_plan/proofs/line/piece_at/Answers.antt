@@ -1,5 +1,5 @@
 -- A text that begins with the line of a piece begins with its first number; what follows that begins with the second one, and so on.
-use Rattle.std.proofs.Common.{◌≡◌, ◌<◌, ◌^◌, None, sym, ◌∙◌, ap, arith, rules, lit<}
+use Rattle.std.proofs.Common.{◌≡◌, None, sym, ◌∙◌, ap, arith, rules, lit<}
 use Rattle.csvw_part_plan.specs.Plans.{cell}
 use Rattle.csvw_part_plan.proofs.Lines.{line-cells, line_read, peel, peel_number}
 use Rattle.csvw_part_plan.proofs.line.piece_at.Goals as goal

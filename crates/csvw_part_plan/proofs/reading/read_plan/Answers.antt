@@ -1,5 +1,5 @@
 -- A line more was read, or the first wrong line was found.
-use Rattle.std.proofs.Common.{◌≡◌, ◌∙◌, [], ◌∷◌, ◌++◌, sym, ap, refl, true, inl, inr, rules, subst}
+use Rattle.std.proofs.Common.{◌≡◌, ◌∙◌, [], ◌∷◌, ◌++◌, sym, ap, refl, true, inl, inr, rules}
 use Rattle.std.proofs.lemmas.List.Elements.{All-push}
 use Rattle.csvw_part_plan.specs.Order.{fault_after}
 use Rattle.csvw_part_plan.specs.Plans.{Fits}

@@ -1,5 +1,5 @@
 -- The texts that are added are the line of the piece.
-use Rattle.std.proofs.Common.{◌≡◌, ◌∙◌, ◌++◌, List, ℕ, subst}
+use Rattle.std.proofs.Common.{◌++◌, List, ℕ, subst}
 use Rattle.std.specs.Prelude.{OnErr, OnOk}
 use Rattle.csvw_streams.specs.Lines.{SendsOn}
 use Rattle.csvw_streams.specs.Streams.{IsCut, stream_of}

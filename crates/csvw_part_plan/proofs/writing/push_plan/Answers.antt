@@ -1,5 +1,5 @@
 -- The heading was added, and then the lines; or a write of one of them is cut.
-use Rattle.std.proofs.Common.{◌≡◌, ◌∙◌, ◌+◌, ◌++◌, List, ℕ, flat_map, get_or, drop, sym, subst, arith}
+use Rattle.std.proofs.Common.{◌+◌, ◌++◌, List, ℕ, flat_map, get_or, drop, sym, subst, arith}
 use Rattle.std.proofs.lemmas.Result.{err_from_is_err_and}
 use Rattle.csvw_streams.specs.Counted.{inner_of, failures_of}
 use Rattle.csvw_streams.specs.Lines.{SendsOn}

@@ -1,6 +1,5 @@
 -- What the room has of the plan is sent, or the write is cut.
-use Rattle.std.proofs.Common.{◌≡◌, [], List, ℕ, subst}
-use Rattle.std.specs.Io.KnownBytes.{Appends}
+use Rattle.std.proofs.Common.{List, ℕ, subst}
 use Rattle.csvw_streams.specs.Counted.{inner_of, failures_of}
 use Rattle.csvw_streams.specs.Lines.{SendsOn}
 use Rattle.csvw_streams.specs.Streams.{stream_of}

@@ -1,6 +1,5 @@
 -- A text that begins with the numbers of a place begins with its first number; what follows that begins with the second one, and so on.
-use Rattle.std.proofs.Common.{◌≡◌, ◌<◌, ◌^◌, None, sym, ◌∙◌, ap, arith, rules, lit<}
-use Rattle.csvw_part_plan.specs.Plans.{cell}
+use Rattle.std.proofs.Common.{◌≡◌, None, arith, rules, lit<}
 use Rattle.csvw_reports.proofs.Lines.{peel, peel_number}
 use Rattle.csvw_reports.proofs.line.place_at.Goals as goal
 

@@ -1,8 +1,7 @@
 -- A line more was read, or the first wrong line was found.
-use Rattle.std.proofs.Common.{◌≡◌, [], ◌∷◌, ◌++◌, ◌∙◌, ap, append-nil, refl, inl, inr, rules, flat_map}
+use Rattle.std.proofs.Common.{◌≡◌, [], ◌∷◌, ◌++◌, refl, inr, rules}
 use Rattle.std.proofs.lemmas.List.Elements.{All-push}
-use Rattle.csvw_report.specs.Report.{heading, line}
-use Rattle.csvw_part_plan.proofs.Empty.{empty, not_empty}
+use Rattle.csvw_part_plan.proofs.Empty.{not_empty}
 use Rattle.csvw_reports.specs.Reading.{Fits}
 use Rattle.csvw_reports.proofs.Lines.{shorter, text_more}
 use Rattle.csvw_reports.proofs.reading.read_report.Goals as goal
