@@ -1,5 +1,5 @@
 -- The JSON of a text that U+FEFF precedes, and the bytes of a document that was read.
-use Rattle.std.proofs.Common.{◌≡◌, ℕ, List, [], ◌∷◌, ◌++◌, length, false, nat_eq, nat_lt, ◌||◌, IsUtf8, Option, Some, None, Result, Ok, Err, Vec, Global, ap, ◌∙◌, refl}
+use Rattle.std.proofs.Common.{◌≡◌, ℕ, List, [], ◌∷◌, ◌++◌, length, false, nat_eq, nat_lt, ◌||◌, IsUtf8, Some, None, Result, Ok, Err, Vec, Global, ap, ◌∙◌, refl}
 use Rattle.std.proofs.lemmas.Bool.{cond-true}
 use Rattle.std.proofs.lemmas.Str.{is_utf8-from_IsUtf8}
 use Rattle.serde_json.specs.Data.{Data}

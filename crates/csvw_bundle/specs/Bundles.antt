@@ -1,16 +1,15 @@
 -- The document in which the objects of resources take the place of their URLs: `Bundles` (Metadata Vocabulary for Tabular Data, sections 5.3,
 -- 5.4 and 6.1). The properties `tableSchema` and `dialect` of a group and of its tables may be a URL.
-use Rattle.std.specs.Prelude.{◌≡◌, ◌≤◌, ℕ, ◌+◌, List, [], ◌∷◌, ◌++◌, Bool, ◌||◌, bytes_eq, nat_eq, nat_lt, length, codes, if◌then◌else◌, Option, Some, None}
-use Rattle.std.specs.Prelude.{Result, Ok, Err, unwrap_or}
+use Rattle.std.specs.Prelude.{◌≡◌, ◌≤◌, ℕ, ◌+◌, List, [], ◌∷◌, Bool, ◌||◌, bytes_eq, nat_eq, nat_lt, length, codes, if◌then◌else◌, Option, Some, None}
+use Rattle.std.specs.Prelude.{Result, Ok, Err}
 use Rattle.std.specs.declared.alloc.Global.{Global}
 use Rattle.std.specs.declared.vec.Vec.{Vec}
-use Rattle.serde_json.specs.Data.{Data, null, boolean, number, string, array, object, Items, no_items, item, Members, no_members, member, depth}
+use Rattle.serde_json.specs.Data.{Data, null, boolean, number, string, array, object, Items, no_items, item, Members, depth}
 use Rattle.serde_json.specs.Read.{max_depth}
 use Rattle.url.specs.Parts.{Parts}
 use Rattle.csvw_iri.specs.Link.{base_of, iri_of}
 use Rattle.csvw_iri.specs.Link as iri
 use Rattle.csvw_meta_core.specs.declared.fault.MetaCode.{MetaCode}
-use Rattle.csvw_meta_core.specs.declared.fault.MetaFault.{MetaFault}
 use Rattle.csvw_meta_core.specs.declared.fault.Refusal.{Refusal}
 use Rattle.csvw_meta_core.specs.Context.{context}
 use Rattle.csvw_meta_core.specs.Pointer.{below, item_at}

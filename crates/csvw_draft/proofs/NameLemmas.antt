@@ -1,6 +1,6 @@
 -- A name that gains a letter, a digit or `_`.
-use Rattle.std.proofs.Common.{◌≡◌, ◌==◌, ℕ, List, [], ◌∷◌, ◌++◌, true, false, refl, nat_eq, length}
-use Rattle.std.proofs.Common.{◌<◌, arith, rules, Result, Ok, Err, OnOk}
+use Rattle.std.proofs.Common.{◌≡◌, ◌==◌, ℕ, List, [], ◌∷◌, ◌++◌, true, false, refl}
+use Rattle.std.proofs.Common.{◌<◌, arith, Result, Ok, Err, OnOk}
 use Rattle.std.specs.Char.{is_ascii_alphanumeric, IsAsciiAlphanumeric}
 use Rattle.std.specs.List.{All}
 use Rattle.std.proofs.lemmas.List.Elements.{All-push, All-nil}

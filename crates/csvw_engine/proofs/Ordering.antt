@@ -1,5 +1,5 @@
 -- Before any read the events are in each order.
-use Rattle.std.proofs.Common.{◌≡◌, ℕ, List, [], ◌∷◌, ◌++◌, Contains, arith, refl, sym, subst}
+use Rattle.std.proofs.Common.{◌≡◌, ℕ, List, [], ◌∷◌, ◌++◌, arith, refl, sym, subst}
 use Rattle.csvw_session.specs.Events.{Event}
 use Rattle.csvw_engine.specs.ReadOrder.{AreEndedBefore, AreReadEqually, AreReadIn}
 use Rattle.csvw_engine.specs.Rooms.{IsOrder}

@@ -42,7 +42,7 @@ use Rattle.csvw_group_laws.specs.Taken.{AreTaken, AreTakenBefore}
 use Rattle.csvw_engine.specs.ReadOrder.{AreReadIn}
 use Rattle.csvw_engine.specs.Reading.{AreSteady, Gave, GaveTexts, IsSame, Reads, ReadsAll, StopsAt}
 use Rattle.csvw_engine.specs.Groups.{EndsBy, GainsSome, HaveTables, SinkLeaves, TablesStop, TakesTables, TookTables}
-use Rattle.csvw_engine.specs.Texts.{AreTakenButLast, GaveEvents, IsReason, ReadToEnds, RefusedInText, StopsInText, piece_limit}
+use Rattle.csvw_engine.specs.Texts.{AreTakenButLast, GaveEvents, ReadToEnds, RefusedInText, StopsInText, piece_limit}
 
 -- each of the tables has ended
 all_ended : (plans : List TablePlan) (tables : List Table) → length tables ≡ length plans

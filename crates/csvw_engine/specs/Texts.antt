@@ -1,6 +1,6 @@
 -- The texts that the readers of a group returned, and the text in which a run stops: `GaveEvents`, `StopsInText`, `RefusedInText`
 -- (Model for Tabular Data, sections 4.1 to 4.5 and 8).
-use Rattle.std.specs.Prelude.{◌≡◌, ◌⊎◌, ◌<◌, ◌+◌, ◌-◌, ◌^◌, ℕ, true, List, [], length, slice_get, Option, Some}
+use Rattle.std.specs.Prelude.{◌≡◌, ◌⊎◌, ◌<◌, ◌+◌, ℕ, true, List, [], length, slice_get, Option, Some}
 use Rattle.csvw_streams.specs.declared.counted.Counted.{Counted}
 use Rattle.csvw_fault.specs.declared.fault.Fault.{Fault}
 use Rattle.csvw_records.specs.RowValue.{Given}

@@ -1,8 +1,7 @@
 -- A text that goes on twice: the rows of both pieces were given.
-use Rattle.std.proofs.Common.{◌≡◌, ◌∙◌, ℕ, Bool, true, false, List, [], ◌++◌, refl, sym, ap, subst, append_assoc}
+use Rattle.std.proofs.Common.{◌≡◌, ◌∙◌, ℕ, Bool, true, false, List, ◌++◌, refl, sym, ap, subst, append_assoc}
 use Rattle.std.specs.Prelude.{nat_eq, if◌then◌else◌}
 use Rattle.csvw_records.specs.RowValue.{Given}
-use Rattle.csvw_columns_core.specs.declared.columns.Columns.{Columns}
 use Rattle.csvw_columns.specs.declared.plan.TablePlan.{TablePlan}
 use Rattle.csvw_annotate.specs.declared.row.Row.{Row}
 use Rattle.csvw_keys.specs.Books.{KeepsKeys}
@@ -11,7 +10,7 @@ use Rattle.csvw_keys.specs.declared.key_book.KeyBook.{KeyBook}
 use Rattle.csvw_triples_core.specs.declared.mode.Mode.{Mode}
 use Rattle.csvw_triples_core.specs.declared.term.Triple.{Triple}
 use Rattle.csvw_engine_core.specs.Faults.{table_faults}
-use Rattle.csvw_engine_core.specs.Tables.{AddsRows, Gone, KeepsColumns, Outlets, TableHolds, table_triples}
+use Rattle.csvw_engine_core.specs.Tables.{AddsRows, Gone, Outlets, TableHolds, table_triples}
 use Rattle.csvw_engine_core.specs.declared.table.Table.{Table}
 use Rattle.csvw_engine_core.proofs.Going.{faults_more, none_more, same_faults, same_triples, triples_more}
 

@@ -1,13 +1,13 @@
 -- A member is put last, since its name is above those before it. Its fault is a fault of all.
-use Rattle.std.proofs.Common.{◌≡◌, List, [], ◌∷◌, ◌++◌, sym, ap, ◌∙◌, subst, append_assoc, append-nil}
+use Rattle.std.proofs.Common.{◌≡◌, [], ◌∷◌, ◌++◌, sym, ap, ◌∙◌, subst, append_assoc, append-nil}
 use Rattle.std.proofs.lemmas.Result.{err_from_is_err_and}
 use Rattle.std.specs.List.Sorted.{IsStrictlySortedBy}
 use Rattle.std.specs.Map.{keys_of}
 use Rattle.std.specs.String.{string_cmp}
 use Rattle.serde_json.specs.Data.{Data}
-use Rattle.serde_json.specs.View.{view, members_view}
+use Rattle.serde_json.specs.View.{members_view}
 use Rattle.serde_json.proofs.Views.{Entry}
-use Rattle.csvw_meta_core.specs.Read.{Read, fine}
+use Rattle.csvw_meta_core.specs.Read.{Read}
 use Rattle.csvw_bundle.specs.Members.{each_member}
 use Rattle.csvw_bundle.proofs.MembersLemmas.{fails_among, goes_last, none_last, reads_all, value_of}
 use Rattle.csvw_bundle.proofs.members.each_member.Goals as goal
