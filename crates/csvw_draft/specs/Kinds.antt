@@ -22,6 +22,7 @@ use Rattle.csvw_datatype_core.specs.Values.{number_value, date_value, moment_val
 use Rattle.csvw_datatype_core.specs.Clocks.{clock_form}
 use Rattle.csvw_datatype_core.specs.Stamps.{stamp_value}
 use Rattle.csvw_datatype_core.specs.DateTimes.{date_time_value}
+use Rattle.csvw_datatype_core.specs.ZonedDates.{zoned_date_value}
 use Rattle.csvw_double.specs.Forms.{double_form}
 use Rattle.csvw_meta_core.specs.declared.profile.Profile.{Profile}
 use Rattle.csvw_meta_core.specs.declared.profile.Profile.TheVariants.{Core, W3c}
@@ -49,6 +50,7 @@ reads (kinds.Moment format) text = is_some (moment_value format text)
 reads kinds.Double text = is_some (double_form text)
 reads (kinds.Time format) text = is_some (clock_form format text)
 reads (kinds.Stamp format) text = is_some (stamp_value format Optional text)
+reads kinds.DayWithZone text = is_some (zoned_date_value None text)
 reads kinds.MomentWithZone text = is_some (date_time_value Optional text)
 reads kinds.Text text = true
 
@@ -105,7 +107,7 @@ minutes_format = clocks.Pattern (record { time = times.Minutes; digits = 0; zone
 -- the datatypes that a document of the profile w3c may use besides
 abbrev pub w3c_kinds : List Kind
 w3c_kinds =
-    (kinds.Double ∷ kinds.Time clocks.Any ∷ kinds.Time minutes_format ∷ kinds.MomentWithZone ∷ []) ++ moment_kinds
+    (kinds.Double ∷ kinds.Time clocks.Any ∷ kinds.Time minutes_format ∷ kinds.DayWithZone ∷ kinds.MomentWithZone ∷ []) ++ moment_kinds
 
 -- decimals may have a comma where `;` is the delimiter
 abbrev pub comma_kinds : ℕ → List Kind
@@ -128,6 +130,7 @@ is_core (kinds.Moment Minutes) = true
 is_core (kinds.Moment (Spaced date time)) = false
 is_core kinds.Double = false
 is_core (kinds.Time format) = false
+is_core kinds.DayWithZone = false
 is_core kinds.MomentWithZone = false
 is_core (kinds.Stamp format) = false
 is_core kinds.Text = true

@@ -237,9 +237,12 @@ fn datatype_part(alloc: Global, kind: Kind) -> Result<Option<DatatypePart>, Allo
         Kind::Moment(format) => moment_part(alloc, format)?,
         Kind::Stamp(format) => stamp_part(alloc, format)?,
         Kind::Time(format) => time_part(alloc, format)?,
-        Kind::Truth | Kind::Whole | Kind::Decimal | Kind::Double | Kind::MomentWithZone => {
-            DatatypePart::Name(base)
-        }
+        Kind::Truth
+        | Kind::Whole
+        | Kind::Decimal
+        | Kind::Double
+        | Kind::DayWithZone
+        | Kind::MomentWithZone => DatatypePart::Name(base),
     }))
 }
 

@@ -4,12 +4,12 @@ ghost use Rattle.csvw_draft.specs.declared.kind.Kind.TheVariants as kinds;
 ghost use Rattle.csvw_draft.specs.Kinds.{all_spaced_kinds, core_kinds, database_format, day_kinds, grouped_kinds, kinds_of, moment_kinds, spaced_kinds, stamp_kinds, w3c_kinds, zone_of};
 
 use crate::grouping::{Fraction, GroupChar, Grouping};
-use crate::value::{date_time_as_value, truth_of};
+use crate::value::{date_as_value, date_time_as_value, truth_of};
 use csvw_datatype::{Value, day_of, moment_of, number_of};
 use csvw_datatype_core::{
     ClockFormat, ClockPattern, DATE_FORMATS, DateFormat, MomentFormat, NumberRules, OffsetForm,
-    StampFormat, TimeFormat, UtcMark, Zone, ZoneFormat, ZoneGap, clock_text, read_date_time,
-    read_stamp,
+    StampFormat, TimeFormat, UtcMark, Zone, ZoneFormat, ZoneGap, clock_text, is_zoned_date,
+    read_date_time, read_stamp, read_zoned_date,
 };
 use csvw_double::double_of;
 use csvw_meta::Profile;
@@ -65,6 +65,8 @@ pub enum Kind {
     Double,
     /// `time`, in the profile w3c: in a format, or as XML Schema writes it.
     Time(ClockFormat),
+    /// `date` that may have a zone, in the profile w3c.
+    DayWithZone,
     /// `dateTime` that may have a zone and parts of a second, in the profile w3c.
     MomentWithZone,
     /// `dateTime` in a format that may have a zone and parts of a second, in the profile w3c.
@@ -175,6 +177,7 @@ fn push_w3c(kinds: &mut Vec<Kind>) -> Result<(), AllocError>
     kinds.push(Kind::Double)?;
     kinds.push(Kind::Time(ClockFormat::Any))?;
     kinds.push(Kind::Time(MINUTES))?;
+    kinds.push(Kind::DayWithZone)?;
     kinds.push(Kind::MomentWithZone)?;
     push_moments(kinds)
 }
@@ -222,7 +225,7 @@ impl Kind {
             Kind::Whole => "integer",
             Kind::Grouped(grouping) if grouping.fraction == Fraction::None => "integer",
             Kind::Decimal | Kind::DecimalComma | Kind::Grouped(_) => "decimal",
-            Kind::Day(_) => "date",
+            Kind::Day(_) | Kind::DayWithZone => "date",
             Kind::Moment(_) | Kind::MomentWithZone | Kind::Stamp(_) => "dateTime",
             Kind::Double => "double",
             Kind::Time(_) => "time",
@@ -236,6 +239,7 @@ impl Kind {
         match self {
             Kind::Double
             | Kind::Time(_)
+            | Kind::DayWithZone
             | Kind::MomentWithZone
             | Kind::Stamp(_)
             | Kind::Moment(MomentFormat::Spaced(..)) => false,
@@ -275,6 +279,7 @@ impl Kind {
             Kind::Double => double_of(alloc, text)?.is_some(),
             Kind::Time(format) => clock_text(alloc, format, text)?.is_some(),
             Kind::Stamp(format) => read_stamp(alloc, format, Zone::Optional, text)?.is_some(),
+            Kind::DayWithZone => is_zoned_date(text),
             Kind::MomentWithZone => read_date_time(alloc, Zone::Optional, text)?.is_some(),
             Kind::Text => true,
         })
@@ -305,6 +310,7 @@ impl Kind {
             Kind::Stamp(format) => {
                 read_stamp(alloc, format, Zone::Optional, text)?.map(date_time_as_value)
             }
+            Kind::DayWithZone => read_zoned_date(alloc, None, text)?.map(date_as_value),
             Kind::MomentWithZone => {
                 read_date_time(alloc, Zone::Optional, text)?.map(date_time_as_value)
             }

@@ -19,8 +19,8 @@
 //!   `'`. Lines without the delimiter above the header are skipped, and so are blank rows that don't fit the table.
 //! - A column has its header cell as `titles`, and a `name` made from it. A column whose header cell is empty has neither.
 //! - Its datatype is the narrowest one that reads each of its texts but markers of missing values, as `NA` or `-`: `boolean`, `integer`,
-//!   `decimal`, `date`, `dateTime` or `string`. In the profile w3c it may also be `double`, `time`, or `dateTime` with a zone, parts of a
-//!   second or a space, as databases write it. A decimal may have a comma if the delimiter is `;`. A number may have a space or `'` before each three digits of
+//!   `decimal`, `date`, `dateTime` or `string`. In the profile w3c it may also be `double`, `time`, `date` with a zone, or `dateTime`
+//!   with a zone, parts of a second or a space, as databases write it. A decimal may have a comma if the delimiter is `;`. A number may have a space or `'` before each three digits of
 //!   its whole part.
 //! - The markers among its texts are its `null`. In a column of `string` they are texts as others.
 //! - It is `required` if no cell is null by that datatype.

@@ -1,13 +1,21 @@
 //! The value of a text, for each datatype that a draft gives to columns.
 
 use csvw_datatype::Value;
-use csvw_datatype_core::DateTime;
+use csvw_datatype_core::{DateTime, ZonedDate};
 
 /// Returns the value of a moment that may have a zone and parts of a second.
 pub(crate) fn date_time_as_value(moment: DateTime) -> Value {
     match moment {
         DateTime::Second(second) => Value::Moment(second),
         DateTime::Written(text) => Value::Text(text),
+    }
+}
+
+/// Returns the value of a date that may have a zone.
+pub(crate) fn date_as_value(date: ZonedDate) -> Value {
+    match date {
+        ZonedDate::Day(day) => Value::Day(day),
+        ZonedDate::Written(text) => Value::Text(text),
     }
 }
 

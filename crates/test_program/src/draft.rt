@@ -348,7 +348,7 @@ static DOCUMENTS: [Case; 19] = [
 ];
 
 /// Drafts in the profile w3c.
-static W3C_DOCUMENTS: [Case; 11] = [
+static W3C_DOCUMENTS: [Case; 12] = [
     one!(
         "types.csv",
         "n,d,t,c,m\n1,1e5,08:30,08:30:00,2020-01-31T08:30:00Z\n2,-INF,09:15,09:15:30,2020-01-31T09:00:00.5\n",
@@ -405,7 +405,7 @@ static W3C_DOCUMENTS: [Case; 11] = [
     },
     one!(
         "none.csv",
-        "t,h,m,z\n08:30,24:00,2020-01-31T08:30:00+15:00,2020-01-31\n08:30:15,00:00,2020-01-31T08:30:00Z,2020-01-31Z\n",
+        "t,h,m,z\n08:30,24:00,2020-01-31T08:30:00+15:00,2020-01-31\n08:30:15,00:00,2020-01-31T08:30:00Z,2020-01-31 Z\n",
         r#"{"@context":"http://www.w3.org/ns/csvw","url":"none.csv","tableSchema":{"columns":[
             {"name":"t","titles":"t","required":true},
             {"name":"h","titles":"h","required":true},
@@ -438,6 +438,16 @@ static W3C_DOCUMENTS: [Case; 11] = [
             {"name":"m","titles":"m","datatype":{"base":"dateTime","format":"yyyy-MM-ddTHH:mm"},"required":true}],
             "primaryKey":"m"}}"#
     ),
+    // dates and times with zones; those of the first and of the last column are one moment each
+    one!(
+        "zones.csv",
+        "a,b,t\n2020-01-31+13:00,2020-01-31,08:30:00Z\n2020-01-30-11:00,2020-01-31Z,09:30:00+01:00\n",
+        r#"{"@context":"http://www.w3.org/ns/csvw","url":"zones.csv","tableSchema":{"columns":[
+            {"name":"a","titles":"a","datatype":"date","required":true},
+            {"name":"b","titles":"b","datatype":"date","required":true},
+            {"name":"t","titles":"t","datatype":"time","required":true}],
+            "primaryKey":"b"}}"#
+    ),
     // moments as databases write them, and times with parts of a second; in the last two columns one text has another form
     one!(
         "databases.csv",
@@ -467,12 +477,13 @@ static W3C_DOCUMENTS: [Case; 11] = [
 /// Drafts in the profile core of texts that only the profile w3c has a datatype for.
 static CORE_DOCUMENTS: [Case; 1] = [one!(
     "strings.csv",
-    "d,t,m,s\n1e5,08:30,2020-01-31T08:30:00Z,31/01/2020 08:30\n",
+    "d,t,m,s,z\n1e5,08:30,2020-01-31T08:30:00Z,31/01/2020 08:30,2020-01-31Z\n",
     r#"{"@context":"http://www.w3.org/ns/csvw","url":"strings.csv","tableSchema":{"columns":[
         {"name":"d","titles":"d","required":true},
         {"name":"t","titles":"t","required":true},
         {"name":"m","titles":"m","required":true},
-        {"name":"s","titles":"s","required":true}],
+        {"name":"s","titles":"s","required":true},
+        {"name":"z","titles":"z","required":true}],
         "primaryKey":"d"}}"#
 )];
 
@@ -499,6 +510,7 @@ csvw: strings.csv: column \"d\": a string, and a double with `--profile w3c`
 csvw: strings.csv: column \"t\": a string, and a time with `--profile w3c`
 csvw: strings.csv: column \"m\": a string, and a dateTime with `--profile w3c`
 csvw: strings.csv: column \"s\": a string, and a dateTime with `--profile w3c`
+csvw: strings.csv: column \"z\": a string, and a date with `--profile w3c`
 ";
 
 /// Fails if a draft of a case in a profile doesn't send these lines to `err`.
